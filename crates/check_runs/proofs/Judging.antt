@@ -12,22 +12,22 @@ use Rattle.cryfs_check.specs.declared.checking.Checked.TheVariants.{Yes, No}
 use Rattle.fs_model.specs.Tree.{Tree}
 use Rattle.held_blocks.specs.Loads.{loads_by}
 use Rattle.local_state.specs.Known.{live_ids}
-use Rattle.mount.specs.Answering.{store_of, lies_of}
-use Rattle.mount.specs.Mounts.{IsReady}
-use Rattle.mount.specs.Tower.{TowerStands}
+use Rattle.cryfs_setup.specs.mount.Answering.{store_of, lies_of}
+use Rattle.cryfs_setup.specs.mount.Mounts.{IsReady}
+use Rattle.cryfs_setup.specs.mount.Tower.{TowerStands}
 use Rattle.mount_blocks.specs.Examined.{held_of, trace_of, examined_meanings, examined_holdings}
 use Rattle.mount_blocks.specs.ExaminedLaws.{beside_none, examined_lawful}
 use Rattle.mount_blocks.specs.declared.examined.Examined.{Examined}
-use Rattle.mount_core.proofs.Moving.{stays_same}
-use Rattle.mount_tower.specs.Tower.{tower_holdings}
-use Rattle.mount_tower.specs.TowerLaws.{tower_lawful}
+use Rattle.cryfs_setup.proofs.mount_core.Moving.{stays_same}
+use Rattle.cryfs_setup.specs.mount_tower.Tower.{tower_holdings}
+use Rattle.cryfs_setup.specs.mount_tower.TowerLaws.{tower_lawful}
 use Rattle.outcome.specs.Meanings.{Lawful, Meanings, IsOfBlocks}
 use Rattle.outcome.specs.Outcome.{Outcome, alarm}
 use Rattle.outside.specs.Trace.{Call}
 use Rattle.outside.specs.declared.keeper.Keeper.{Ghosts as KeeperGhosts}
 use Rattle.store_api.specs.Content.{Id}
 use Rattle.store_api.specs.Holdings.{Stays}
-use Rattle.mount_core.specs.Showing.{ShowsFiles}
+use Rattle.cryfs_setup.specs.mount_core.Showing.{ShowsFiles}
 use Rattle.check_runs.specs.Judging.{is_bad, read_by, IsJudged, Judges}
 use Rattle.check_runs.proofs.Reading.{asked_once, refuted, proven}
 

@@ -16,9 +16,9 @@ use Rattle.run_status.specs.declared.status.Status.{Status}
 use Rattle.run_status.specs.declared.status.Status.TheVariants.{Done, Violation, DirectoryFault, OutputFault, Memory}
 use Rattle.run_status.specs.Statuses.{first_of}
 use Rattle.session_lines.specs.Driven.{IsUnfailed}
-use Rattle.session_runs.specs.Openings.{HasCauses, StayOpen}
-use Rattle.session_runs.specs.Runs.{Outside, outside_of, IsExaminedRun, PasswordOpens}
-use Rattle.mount_core.specs.Showing.{ShowsFiles}
+use Rattle.cryfs_setup.specs.session_runs.Openings.{HasCauses, StayOpen}
+use Rattle.cryfs_setup.specs.session_runs.Runs.{Outside, outside_of, IsExaminedRun, PasswordOpens}
+use Rattle.cryfs_setup.specs.mount_core.Showing.{ShowsFiles}
 use Rattle.check_rules.specs.Certificates.{Owners}
 use Rattle.check_texts.specs.Telling.{AreOwnersTold, IsTold, ListsAfter}
 use Rattle.check_runs.specs.Judging.{is_bad}

@@ -14,17 +14,17 @@ use Rattle.cryfs_check.specs.declared.checking.Checked.TheVariants.{Yes, No}
 use Rattle.data_tree.proofs.Forests.{stays-same, stays-then}
 use Rattle.held_blocks.specs.Loads.{loads_by}
 use Rattle.local_state.specs.Known.{live_ids}
-use Rattle.mount.specs.Answering.{store_of, vault_faults}
-use Rattle.mount.specs.Mounts.{IsReady}
+use Rattle.cryfs_setup.specs.mount.Answering.{store_of, vault_faults}
+use Rattle.cryfs_setup.specs.mount.Mounts.{IsReady}
 use Rattle.mount_blocks.specs.Examined.{OnlyExamined, held_of, trace_of, examined_meanings, examined_holdings}
 use Rattle.mount_blocks.specs.ExaminedLaws.{examined_lawful}
 use Rattle.mount_blocks.specs.declared.examined.Examined.{Examined}
-use Rattle.mount_tower.specs.Tower.{tower_holdings}
+use Rattle.cryfs_setup.specs.mount_tower.Tower.{tower_holdings}
 use Rattle.outcome.specs.Meanings.{HasCause, IsCalm, IsQuiet}
 use Rattle.outside.specs.Trace.{Call}
 use Rattle.outside.specs.declared.keeper.Keeper.{Ghosts as KeeperGhosts}
-use Rattle.session_runs.proofs.Still.{went_got}
-use Rattle.session_runs.specs.Resting.{AreGets, OnlyGot}
+use Rattle.cryfs_setup.proofs.session_runs.Still.{went_got}
+use Rattle.cryfs_setup.specs.session_runs.Resting.{AreGets, OnlyGot}
 use Rattle.store_api.specs.Content.{Id}
 use Rattle.store_api.specs.Loads.{LoadAnswer}
 use Rattle.store_api.specs.Holdings.{Stays}

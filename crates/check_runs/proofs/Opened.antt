@@ -6,30 +6,30 @@ use Rattle.config_file.specs.Settings.{Settings, settings_of}
 use Rattle.fs_model.specs.Tree.{Tree}
 use Rattle.held_blocks.specs.Held.{Held}
 use Rattle.held_blocks.specs.Standing.{records}
-use Rattle.mount.proofs.Reading.{represents_told}
-use Rattle.mount.proofs.Standing.{represents}
-use Rattle.mount.specs.Answering.{store_of, calls_of, kept_of, lies_of}
-use Rattle.mount.specs.declared.mount.Mount.{Mount}
-use Rattle.mount.specs.Representing.{Represents}
-use Rattle.mount.specs.Tower.{TowerStands, TowerConfigures}
+use Rattle.cryfs_setup.proofs.mount.Reading.{represents_told}
+use Rattle.cryfs_setup.proofs.mount.Standing.{represents}
+use Rattle.cryfs_setup.specs.mount.Answering.{store_of, calls_of, kept_of, lies_of}
+use Rattle.cryfs_setup.specs.mount.declared.mount.Mount.{Mount}
+use Rattle.cryfs_setup.specs.mount.Representing.{Represents}
+use Rattle.cryfs_setup.specs.mount.Tower.{TowerStands, TowerConfigures}
 use Rattle.mount_answering.proofs.Lines.{configures_loaded}
 use Rattle.mount_blocks.proofs.Enduring.{tower_applied, tower_enduring}
 use Rattle.mount_blocks.specs.Examined.{OnlyExamined}
-use Rattle.mount_tower.proofs.Reading.{same_kept}
-use Rattle.mount_tower.specs.Identities.{identity_for, KeepsRecord}
-use Rattle.mount_tower.specs.Tower.{held_in, tower_meanings, tower_holdings, tower_durables}
+use Rattle.cryfs_setup.proofs.mount_tower.Reading.{same_kept}
+use Rattle.cryfs_setup.specs.mount_tower.Identities.{identity_for, KeepsRecord}
+use Rattle.cryfs_setup.specs.mount_tower.Tower.{held_in, tower_meanings, tower_holdings, tower_durables}
 use Rattle.outside.specs.Going.{GoesOn}
 use Rattle.outside.specs.Honest.{is_lie, count_told}
 use Rattle.outside.specs.Trace.{Call}
 use Rattle.outside.specs.declared.keeper.Keeper.{Ghosts as KeeperGhosts}
-use Rattle.session_runs.proofs.Whole.{each_before}
-use Rattle.session_runs.specs.Runs.{Outside, outside_of, OutsideStandsFor, lies, OpensTo}
-use Rattle.session_runs.specs.Turns.{Begun}
+use Rattle.cryfs_setup.proofs.session_runs.Whole.{each_before}
+use Rattle.cryfs_setup.specs.session_runs.Runs.{Outside, outside_of, OutsideStandsFor, lies, OpensTo}
+use Rattle.cryfs_setup.specs.session_runs.Turns.{Begun}
 use Rattle.session_saver.specs.Saving.{KeptConfigures}
 use Rattle.session_saver.specs.declared.saver.Saver.{Saver}
 use Rattle.store_api.specs.Durables.{Identity}
 use Rattle.store_api.specs.Holdings.{Stays}
-use Rattle.mount_core.specs.Showing.{ShowsFiles}
+use Rattle.cryfs_setup.specs.mount_core.Showing.{ShowsFiles}
 use Rattle.check_runs.specs.Judging.{held_for}
 
 module _ {V : Type 0} {K : Type 0} (trace : V → Option (List Call)) (faults : V → ℕ) (G : KeeperGhosts K) (password : List ℕ) (vault : V) (keeper : K) (first : Mount V K) (b : Begun ShowsFiles trace faults G password vault keeper first) where

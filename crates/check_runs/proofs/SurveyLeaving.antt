@@ -19,9 +19,9 @@ use Rattle.run_status.specs.declared.ended.Ended.{Ended}
 use Rattle.run_status.specs.declared.status.Status.{Status}
 use Rattle.run_status.specs.declared.status.Status.TheVariants.{Violation, DirectoryFault, OutputFault, Memory}
 use Rattle.session_lines.specs.Driven.{IsUnfailed}
-use Rattle.session_runs.specs.Openings.{HasCauses, StayOpen}
-use Rattle.session_runs.specs.Runs.{Outside, outside_of, OpensTo, IsQuietRun, PasswordOpens, lies}
-use Rattle.mount_core.specs.Showing.{ShowsFiles}
+use Rattle.cryfs_setup.specs.session_runs.Openings.{HasCauses, StayOpen}
+use Rattle.cryfs_setup.specs.session_runs.Runs.{Outside, outside_of, OpensTo, IsQuietRun, PasswordOpens, lies}
+use Rattle.cryfs_setup.specs.mount_core.Showing.{ShowsFiles}
 use Rattle.check_texts.specs.Surveys.{IsTextTold, AreRefusedTold, IsSurveyTold, status_of_fail}
 use Rattle.check_texts.specs.Telling.{ListsAfter}
 use Rattle.check_runs.specs.Judging.{is_bad}

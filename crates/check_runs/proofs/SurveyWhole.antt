@@ -5,28 +5,28 @@ use Rattle.std.specs.declared.option.Option.{Option}
 use Rattle.config_file.specs.Settings.{Settings, settings_of}
 use Rattle.fs_model.specs.Tree.{Tree}
 use Rattle.held_blocks.specs.Standing.{records}
-use Rattle.mount.specs.Answering.{store_of, calls_of, vault_faults, kept_of}
-use Rattle.mount.specs.declared.mount.Mount.{Mount}
+use Rattle.cryfs_setup.specs.mount.Answering.{store_of, calls_of, vault_faults, kept_of}
+use Rattle.cryfs_setup.specs.mount.declared.mount.Mount.{Mount}
 use Rattle.mount_blocks.specs.Examined.{OnlyExamined}
 use Rattle.mount_blocks.specs.ExaminedLaws.{examined_lawful}
 use Rattle.mount_blocks.specs.declared.examined.Examined.{Examined}
-use Rattle.mount_core.specs.Standing.{IsKeptMarked}
-use Rattle.mount_tower.specs.Tower.{held_in, vault_in}
+use Rattle.cryfs_setup.specs.mount_core.Standing.{IsKeptMarked}
+use Rattle.cryfs_setup.specs.mount_tower.Tower.{held_in, vault_in}
 use Rattle.outcome.specs.Meanings.{HasCause, IsQuiet}
 use Rattle.outside.specs.Trace.{Call}
 use Rattle.outside.specs.declared.keeper.Keeper.{Ghosts as KeeperGhosts}
 use Rattle.data_tree.proofs.Forests.{stays-then}
-use Rattle.session_runs.proofs.Still.{went_got}
-use Rattle.session_runs.proofs.Whole.{only_one}
-use Rattle.session_runs.specs.Openings.{StayOpen}
-use Rattle.session_runs.specs.Resting.{OnlyGot}
-use Rattle.session_runs.specs.Runs.{Outside, outside_of, lies, OpensTo, IsQuietRun}
-use Rattle.session_runs.specs.Turns.{Begun}
+use Rattle.cryfs_setup.proofs.session_runs.Still.{went_got}
+use Rattle.cryfs_setup.proofs.session_runs.Whole.{only_one}
+use Rattle.cryfs_setup.specs.session_runs.Openings.{StayOpen}
+use Rattle.cryfs_setup.specs.session_runs.Resting.{OnlyGot}
+use Rattle.cryfs_setup.specs.session_runs.Runs.{Outside, outside_of, lies, OpensTo, IsQuietRun}
+use Rattle.cryfs_setup.specs.session_runs.Turns.{Begun}
 use Rattle.session_saver.specs.Saving.{KeptConfigures}
 use Rattle.session_saver.specs.declared.saver.Saver.{Saver}
-use Rattle.mount_core.specs.Showing.{ShowsFiles}
-use Rattle.mount.proofs.Formats.{equal_same, loaded_same}
-use Rattle.mount.specs.Formats.{TakesSame}
+use Rattle.cryfs_setup.specs.mount_core.Showing.{ShowsFiles}
+use Rattle.cryfs_setup.proofs.mount.Formats.{equal_same, loaded_same}
+use Rattle.cryfs_setup.specs.mount.Formats.{TakesSame}
 use Rattle.check_runs.specs.Judging.{is_bad, held_for, IsJudged}
 use Rattle.check_runs.specs.Surveying.{IsSurveyed, SurveysBad, Looks, LeavesSurveyed, IsSurveyedRun}
 use Rattle.check_runs.specs.declared.surveying.Survey.{Survey}

@@ -5,19 +5,19 @@ use Rattle.config_file.specs.Settings.{Settings, settings_of}
 use Rattle.config_file.specs.declared.config.Opened.{Opened}
 use Rattle.fs_model.specs.Tree.{Tree}
 use Rattle.held_blocks.specs.Standing.{records}
-use Rattle.mount.specs.Mounts.{Attached}
-use Rattle.mount.specs.declared.mount.Mount.{Mount}
+use Rattle.cryfs_setup.specs.mount.Mounts.{Attached}
+use Rattle.cryfs_setup.specs.mount.declared.mount.Mount.{Mount}
 use Rattle.mount_blocks.specs.declared.examined.Examined.{Examined}
-use Rattle.mount_core.specs.Standing.{IsKeptMarked}
+use Rattle.cryfs_setup.specs.mount_core.Standing.{IsKeptMarked}
 use Rattle.outcome.specs.Meanings.{HasCause, IsQuiet}
 use Rattle.outside.specs.Causes.{RoseBy}
 use Rattle.outside.specs.Trace.{Call}
 use Rattle.outside.specs.declared.keeper.Keeper.{Ghosts as KeeperGhosts}
-use Rattle.session_runs.specs.Openings.{StayOpen}
-use Rattle.session_runs.specs.Resting.{OnlyGot}
-use Rattle.session_runs.specs.Runs.{outside_of, OpensTo, IsExaminedRun}
-use Rattle.session_runs.specs.Turns.{Closing}
-use Rattle.mount_core.specs.Showing.{ShowsFiles}
+use Rattle.cryfs_setup.specs.session_runs.Openings.{StayOpen}
+use Rattle.cryfs_setup.specs.session_runs.Resting.{OnlyGot}
+use Rattle.cryfs_setup.specs.session_runs.Runs.{outside_of, OpensTo, IsExaminedRun}
+use Rattle.cryfs_setup.specs.session_runs.Turns.{Closing}
+use Rattle.cryfs_setup.specs.mount_core.Showing.{ShowsFiles}
 use Rattle.check_runs.specs.declared.examining.Examination.{Examination}
 use Rattle.check_runs.specs.Judging.{is_bad, held_for, IsJudged, Judges, Settles}
 

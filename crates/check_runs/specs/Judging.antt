@@ -17,21 +17,21 @@ use Rattle.held_blocks.specs.Loads.{loads_by}
 use Rattle.held_blocks.specs.Reads.{FoundSince, GaveWrong}
 use Rattle.local_state.specs.Known.{live_ids}
 use Rattle.local_state.specs.Record.{PlainState}
-use Rattle.mount.specs.Answering.{store_of, lies_of, vault_faults}
-use Rattle.mount.specs.Mounts.{IsReady}
-use Rattle.mount.specs.declared.mount.Mount.{Mount}
-use Rattle.mount.specs.Tower.{TowerStands}
+use Rattle.cryfs_setup.specs.mount.Answering.{store_of, lies_of, vault_faults}
+use Rattle.cryfs_setup.specs.mount.Mounts.{IsReady}
+use Rattle.cryfs_setup.specs.mount.declared.mount.Mount.{Mount}
+use Rattle.cryfs_setup.specs.mount.Tower.{TowerStands}
 use Rattle.mount_blocks.specs.Examined.{OnlyExamined, held_of, trace_of}
 use Rattle.mount_blocks.specs.declared.examined.Examined.{Examined}
-use Rattle.mount_calls.specs.Condemning.{Condemns}
-use Rattle.mount_tower.specs.Tower.{tower_holdings}
+use Rattle.cryfs_setup.specs.mount_calls.Condemning.{Condemns}
+use Rattle.cryfs_setup.specs.mount_tower.Tower.{tower_holdings}
 use Rattle.outcome.specs.Meanings.{IsNoticed, IsOfBlocks, HasCause, IsQuiet, OnVerdict}
 use Rattle.outside.specs.Trace.{Call}
 use Rattle.outside.specs.declared.keeper.Keeper.{Ghosts as KeeperGhosts}
 use Rattle.store_api.specs.Content.{Id}
 use Rattle.store_api.specs.Holdings.{Stays}
 use Rattle.store_api.specs.Loads.{LoadAnswer}
-use Rattle.mount_core.specs.Showing.{ShowsFiles}
+use Rattle.cryfs_setup.specs.mount_core.Showing.{ShowsFiles}
 
 -- a flaw or a violation was found
 abbrev pub is_bad : Result Checked Fail → Bool

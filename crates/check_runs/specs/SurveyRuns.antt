@@ -2,13 +2,13 @@
 use Rattle.std.specs.Prelude.{◌≡◌, ◌⊎◌, ℕ, List}
 use Rattle.std.specs.declared.option.Option.{Option}
 use Rattle.line_io.specs.Streams.{Stream, Untouched}
-use Rattle.mount_tower.specs.declared.error.OpenError.{OpenError}
+use Rattle.cryfs_setup.specs.mount_tower.declared.error.OpenError.{OpenError}
 use Rattle.outside.specs.Trace.{Call}
 use Rattle.outside.specs.declared.keeper.Keeper.{Ghosts as KeeperGhosts}
 use Rattle.passwords.specs.Passwords.{PasswordUnread}
 use Rattle.run_status.specs.declared.ended.Ended.{Ended}
 use Rattle.session_lines.specs.Driven.{IsUnfailed}
-use Rattle.session_runs.specs.Openings.{HasPassword, IsUnread, IsUnopened}
+use Rattle.cryfs_setup.specs.session_runs.Openings.{HasPassword, IsUnread, IsUnopened}
 use Rattle.check_texts.specs.Surveys.{IsSurveyTold}
 use Rattle.check_texts.specs.Telling.{ListsAfter}
 use Rattle.check_runs.specs.declared.surveying.Survey.{Survey}

@@ -11,22 +11,22 @@ use Rattle.fs_model.specs.Tree.{Tree}
 use Rattle.held_blocks.specs.Held.{Held}
 use Rattle.held_blocks.specs.Standing.{records}
 use Rattle.local_state.specs.Known.{live_ids}
-use Rattle.mount.specs.Answering.{store_of, vault_faults}
-use Rattle.mount.specs.Mounts.{IsReady, Attached}
-use Rattle.mount.specs.declared.mount.Mount.{Mount}
+use Rattle.cryfs_setup.specs.mount.Answering.{store_of, vault_faults}
+use Rattle.cryfs_setup.specs.mount.Mounts.{IsReady, Attached}
+use Rattle.cryfs_setup.specs.mount.declared.mount.Mount.{Mount}
 use Rattle.mount_blocks.specs.Examined.{OnlyExamined, held_of, trace_of}
 use Rattle.mount_blocks.specs.declared.examined.Examined.{Examined}
-use Rattle.mount_core.specs.Standing.{IsKeptMarked}
-use Rattle.mount_tower.specs.Tower.{tower_holdings}
+use Rattle.cryfs_setup.specs.mount_core.Standing.{IsKeptMarked}
+use Rattle.cryfs_setup.specs.mount_tower.Tower.{tower_holdings}
 use Rattle.outcome.specs.Meanings.{IsCalm, HasCause, IsQuiet}
 use Rattle.outside.specs.Trace.{Call}
 use Rattle.outside.specs.declared.keeper.Keeper.{Ghosts as KeeperGhosts}
-use Rattle.session_runs.specs.Openings.{StayOpen}
-use Rattle.session_runs.specs.Resting.{OnlyGot}
-use Rattle.session_runs.specs.Runs.{outside_of, lies, OpensTo, IsQuietRun}
-use Rattle.session_runs.specs.Turns.{Closing}
+use Rattle.cryfs_setup.specs.session_runs.Openings.{StayOpen}
+use Rattle.cryfs_setup.specs.session_runs.Resting.{OnlyGot}
+use Rattle.cryfs_setup.specs.session_runs.Runs.{outside_of, lies, OpensTo, IsQuietRun}
+use Rattle.cryfs_setup.specs.session_runs.Turns.{Closing}
 use Rattle.store_api.specs.Holdings.{Stays}
-use Rattle.mount_core.specs.Showing.{ShowsFiles}
+use Rattle.cryfs_setup.specs.mount_core.Showing.{ShowsFiles}
 use Rattle.check_runs.specs.Judging.{is_bad, held_for, read_by, IsJudged, Judges}
 use Rattle.check_runs.specs.declared.surveying.Survey.{Survey}
 

@@ -1,18 +1,16 @@
 // The check of an opened file system, from its opening to its closing.
 ghost use Rattle.std.specs.Prelude.{◌≡◌, IfOk, IfErr};
-ghost use Rattle.mount.specs.Mounts.{IsReady};
-ghost use Rattle.mount_tower.specs.declared.error.OpenError.{OpenError};
-ghost use Rattle.session_runs.specs.Openings.{HasCauses, IsUnopened};
-ghost use Rattle.session_runs.specs.Runs.{outside_of};
+ghost use Rattle.cryfs_setup.specs.mount.Mounts.{IsReady};
+ghost use Rattle.cryfs_setup.specs.mount_tower.declared.error.OpenError.{OpenError};
+ghost use Rattle.cryfs_setup.specs.session_runs.Openings.{HasCauses, IsUnopened};
+ghost use Rattle.cryfs_setup.specs.session_runs.Runs.{outside_of};
 ghost use Rattle.check_runs.specs.Judging.{is_bad, Judges, Settles};
 ghost use Rattle.check_runs.specs.Examining.{Examines, IsExamined};
 
 use block_id::{Fail, Memory};
 use cryfs_check::{Checked, check};
-use cryfs_setup::open;
-use mount::Mount;
+use cryfs_setup::{Mount, close, condemn, open};
 use mount_blocks::Examined;
-use mount_calls::{close, condemn};
 use outside::{Keeper, Vault};
 use run_status::Ended;
 use session_saver::SyncError;

@@ -7,6 +7,7 @@ mod running;
 mod survey_run;
 mod surveying;
 
+pub use cryfs_setup::{run_create, run_info, run_migrate, run_passwd};
 pub use examining::{Examination, examine};
 pub use running::run_check;
 pub use survey_run::run_survey;

@@ -1,8 +1,8 @@
 // `check`: checks a whole file system.
 ghost use Rattle.std.specs.Prelude.{◌≡◌, ◌≤◌, []};
 ghost use Rattle.line_io.specs.Streams.{stream_of};
-ghost use Rattle.session_runs.specs.Openings.{HasCauses};
-ghost use Rattle.session_runs.specs.Runs.{outside_of};
+ghost use Rattle.cryfs_setup.specs.session_runs.Openings.{HasCauses};
+ghost use Rattle.cryfs_setup.specs.session_runs.Runs.{outside_of};
 ghost use Rattle.check_runs.specs.Running.{CheckedUnder, RanCheck};
 
 use crate::examining::{Examination, examine};

@@ -1,9 +1,9 @@
 // The survey of an opened file system, from its opening to its closing.
 ghost use Rattle.std.specs.Prelude.{◌≡◌, true, false, IfOk, IfErr};
-ghost use Rattle.mount.specs.Mounts.{IsReady};
-ghost use Rattle.mount_tower.specs.declared.error.OpenError.{OpenError};
-ghost use Rattle.session_runs.specs.Openings.{HasCauses, IsUnopened};
-ghost use Rattle.session_runs.specs.Runs.{outside_of};
+ghost use Rattle.cryfs_setup.specs.mount.Mounts.{IsReady};
+ghost use Rattle.cryfs_setup.specs.mount_tower.declared.error.OpenError.{OpenError};
+ghost use Rattle.cryfs_setup.specs.session_runs.Openings.{HasCauses, IsUnopened};
+ghost use Rattle.cryfs_setup.specs.session_runs.Runs.{outside_of};
 ghost use Rattle.check_runs.specs.Judging.{is_bad};
 ghost use Rattle.check_runs.specs.Surveying.{IsSurveyedRun, Looks, Places, SurveysBad, SurveysIf};
 
@@ -12,10 +12,8 @@ use block_id::{Fail, Memory};
 use block_paths::find_paths;
 use block_survey::{Refused, survey_blocks};
 use cryfs_check::Checked;
-use cryfs_setup::open;
-use mount::Mount;
+use cryfs_setup::{Mount, close, open};
 use mount_blocks::Examined;
-use mount_calls::close;
 use outside::{Keeper, Vault};
 use run_status::Ended;
 use session_saver::SyncError;

@@ -17,17 +17,17 @@ use Rattle.cryfs_check.specs.declared.checking.Checked.TheVariants.{Yes, No}
 use Rattle.fs_model.specs.Tree.{Tree}
 use Rattle.line_io.specs.Lines.{first_line}
 use Rattle.line_io.specs.Streams.{Stream}
-use Rattle.mount.proofs.Reading.{represents_told}
-use Rattle.mount_tower.specs.Identities.{HasEmptyList}
+use Rattle.check_runs.proofs.mount.Reading.{represents_told}
+use Rattle.check_runs.specs.mount_tower.Identities.{HasEmptyList}
 use Rattle.outside.specs.Causes.{RoseBy}
 use Rattle.outside.specs.Trace.{Call}
 use Rattle.outside.specs.declared.keeper.Keeper.{Ghosts as KeeperGhosts}
 use Rattle.run_status.specs.declared.ended.Ended.{Ended}
 use Rattle.run_status.specs.declared.status.Status.{Status}
 use Rattle.run_status.specs.declared.status.Status.TheVariants.{Done, Memory, DirectoryFault, OutputFault}
-use Rattle.session_runs.specs.Openings.{HasCauses, IsUnopened}
-use Rattle.session_runs.specs.Runs.{Outside, outside_of, OpensTo}
-use Rattle.mount_core.specs.Showing.{ShowsFiles}
+use Rattle.check_runs.specs.session_runs.Openings.{HasCauses, IsUnopened}
+use Rattle.check_runs.specs.session_runs.Runs.{Outside, outside_of, OpensTo}
+use Rattle.check_runs.specs.mount_core.Showing.{ShowsFiles}
 use Rattle.completeness.specs.Checks.{StaysUntold, TellsOwners}
 use Rattle.completeness.specs.Premises.{OfRun, IsUntroubled, Finds, Leaves}
 use Rattle.completeness.specs.Sessions.{FindsNoMemory}

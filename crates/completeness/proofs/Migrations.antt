@@ -5,17 +5,17 @@ use Rattle.std.specs.declared.option.Option.{Option}
 use Rattle.std.specs.declared.result.Result.TheVariants.{Ok, Err}
 use Rattle.answers.specs.Sessions.{is_violation, directory_faults, state_faults}
 use Rattle.config_file.specs.Settings.{Settings}
-use Rattle.cryfs_setup.specs.Migrate.{RanMigrate, IsMigrated, IsCount, IsSpentIn}
+use Rattle.check_runs.specs.cryfs_setup.Migrate.{RanMigrate, IsMigrated, IsCount, IsSpentIn}
 use Rattle.fs_model.specs.Tree.{Tree}
 use Rattle.line_io.specs.Lines.{first_line}
 use Rattle.line_io.specs.Streams.{Stream}
-use Rattle.mount.proofs.Reading.{represents_told}
-use Rattle.mount_calls.specs.Migrating.{KeepsNewest}
-use Rattle.mount_core.specs.Answers.{OnSpent}
-use Rattle.mount_migrating.specs.Migrating.{told}
-use Rattle.mount_migrating.specs.declared.error.MigrateError.{MigrateError}
-use Rattle.mount_migrating.specs.declared.error.MigrateError.TheVariants as error
-use Rattle.mount_tower.specs.Identities.{HasEmptyList}
+use Rattle.check_runs.proofs.mount.Reading.{represents_told}
+use Rattle.check_runs.specs.mount_calls.Migrating.{KeepsNewest}
+use Rattle.check_runs.specs.mount_core.Answers.{OnSpent}
+use Rattle.check_runs.specs.mount_migrating.Migrating.{told}
+use Rattle.check_runs.specs.mount_migrating.declared.error.MigrateError.{MigrateError}
+use Rattle.check_runs.specs.mount_migrating.declared.error.MigrateError.TheVariants as error
+use Rattle.check_runs.specs.mount_tower.Identities.{HasEmptyList}
 use Rattle.outside.specs.Causes.{RoseBy}
 use Rattle.outside.specs.Trace.{Call}
 use Rattle.outside.specs.declared.keeper.Keeper.{Ghosts as KeeperGhosts}
@@ -24,12 +24,12 @@ use Rattle.run_status.specs.declared.ended.Ended.{Ended}
 use Rattle.session_lines.specs.Driven.{Reported}
 use Rattle.session_lines.specs.declared.end.End.{End}
 use Rattle.session_lines.specs.declared.end.End.TheVariants.{Finished, InputFault, OutputFault}
-use Rattle.session_runs.specs.Openings.{IsUnopened}
-use Rattle.session_runs.specs.Runs.{Outside, outside_of, OpensTo, IsFounded, directory_fault, state_fault}
+use Rattle.check_runs.specs.session_runs.Openings.{IsUnopened}
+use Rattle.check_runs.specs.session_runs.Runs.{Outside, outside_of, OpensTo, IsFounded, directory_fault, state_fault}
 use Rattle.session_saver.specs.declared.saver.SyncError.{SyncError}
 use Rattle.session_saver.specs.declared.saver.SyncError.TheVariants as sync_error
-use Rattle.setup_texts.specs.MigrateText.{migrated_text}
-use Rattle.mount_core.specs.Showing.{ShowsFiles}
+use Rattle.check_runs.specs.setup_texts.MigrateText.{migrated_text}
+use Rattle.check_runs.specs.mount_core.Showing.{ShowsFiles}
 use Rattle.completeness.specs.Migrations.{Migrates}
 use Rattle.completeness.specs.Premises.{OfRun, IsUntroubled, Finds, Leaves}
 use Rattle.completeness.specs.Sessions.{FindsNoMemory}

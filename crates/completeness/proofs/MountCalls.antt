@@ -11,40 +11,40 @@ use Rattle.fs_model.specs.Tree.{Tree}
 use Rattle.held_blocks.specs.Standing.{records}
 use Rattle.held_blocks.specs.StoreLaws.{sound_is_told}
 use Rattle.histories.proofs.Configuration.{opened_only, only_config}
-use Rattle.mount.proofs.Reading.{represents_told}
-use Rattle.mount.proofs.Standing.{represents}
-use Rattle.mount.specs.Answering.{store_of, calls_of, vault_faults, keeper_faults, kept_of}
-use Rattle.mount.specs.Mounts.{MountClosed}
-use Rattle.mount.specs.Representing.{Represents}
-use Rattle.mount.specs.Serving.{MountMoves, MountSyncs, ChangesPassword, MountLeaves, MountCloses}
-use Rattle.mount.specs.Tower.{tower}
-use Rattle.mount.specs.declared.mount.Halted.{Halted}
-use Rattle.mount.specs.declared.mount.Mount.{Mount}
-use Rattle.mount_calls.specs.Migrating.{MigratesMount, Counts, ids_in}
-use Rattle.mount_core.specs.Answers.{OnSpent}
-use Rattle.mount_core.specs.Standing.{Left, Synced}
-use Rattle.mount_migrating.specs.Migrating.{told, IsSpentAmong}
-use Rattle.mount_migrating.specs.declared.error.MigrateError.{MigrateError}
-use Rattle.mount_migrating.specs.declared.error.MigrateError.TheVariants as migrate_error
-use Rattle.mount_tower.proofs.Reading.{only_unforged}
-use Rattle.mount_tower.specs.Identities.{HasEmptyList}
-use Rattle.mount_tower.specs.Tower.{held_in, tower_holdings}
-use Rattle.mount_tower.specs.Unforged.{IsOnlyConfig}
-use Rattle.mount_tower.specs.declared.error.OpenError.{OpenError}
-use Rattle.mount_tower.specs.declared.error.OpenError.TheVariants as open_error
+use Rattle.check_runs.proofs.mount.Reading.{represents_told}
+use Rattle.check_runs.proofs.mount.Standing.{represents}
+use Rattle.check_runs.specs.mount.Answering.{store_of, calls_of, vault_faults, keeper_faults, kept_of}
+use Rattle.check_runs.specs.mount.Mounts.{MountClosed}
+use Rattle.check_runs.specs.mount.Representing.{Represents}
+use Rattle.check_runs.specs.mount.Serving.{MountMoves, MountSyncs, ChangesPassword, MountLeaves, MountCloses}
+use Rattle.check_runs.specs.mount.Tower.{tower}
+use Rattle.check_runs.specs.mount.declared.mount.Halted.{Halted}
+use Rattle.check_runs.specs.mount.declared.mount.Mount.{Mount}
+use Rattle.check_runs.specs.mount_calls.Migrating.{MigratesMount, Counts, ids_in}
+use Rattle.check_runs.specs.mount_core.Answers.{OnSpent}
+use Rattle.check_runs.specs.mount_core.Standing.{Left, Synced}
+use Rattle.check_runs.specs.mount_migrating.Migrating.{told, IsSpentAmong}
+use Rattle.check_runs.specs.mount_migrating.declared.error.MigrateError.{MigrateError}
+use Rattle.check_runs.specs.mount_migrating.declared.error.MigrateError.TheVariants as migrate_error
+use Rattle.check_runs.proofs.mount_tower.Reading.{only_unforged}
+use Rattle.check_runs.specs.mount_tower.Identities.{HasEmptyList}
+use Rattle.check_runs.specs.mount_tower.Tower.{held_in, tower_holdings}
+use Rattle.check_runs.specs.mount_tower.Unforged.{IsOnlyConfig}
+use Rattle.check_runs.specs.mount_tower.declared.error.OpenError.{OpenError}
+use Rattle.check_runs.specs.mount_tower.declared.error.OpenError.TheVariants as open_error
 use Rattle.outside.specs.Causes.{RoseBy}
 use Rattle.outside.specs.Trace.{Call}
 use Rattle.outside.specs.declared.keeper.Keeper.{Ghosts as KeeperGhosts}
 use Rattle.run_edges.specs.Statuses.{opening_status}
 use Rattle.run_status.specs.declared.status.Status.TheVariants.{Memory}
-use Rattle.session_runs.proofs.Whole.{only_one}
-use Rattle.session_runs.specs.Runs.{Outside, outside_of, PasswordOpens, lies}
-use Rattle.session_runs.specs.Turns.{Begun}
+use Rattle.check_runs.proofs.session_runs.Whole.{only_one}
+use Rattle.check_runs.specs.session_runs.Runs.{Outside, outside_of, PasswordOpens, lies}
+use Rattle.check_runs.specs.session_runs.Turns.{Begun}
 use Rattle.session_saver.specs.Saving.{KeptConfigures}
 use Rattle.session_saver.specs.declared.saver.SyncError.{SyncError}
 use Rattle.session_saver.specs.declared.saver.SyncError.TheVariants as sync_error
 use Rattle.store_api.specs.Durables.{Identity}
-use Rattle.mount_core.specs.Showing.{ShowsFiles}
+use Rattle.check_runs.specs.mount_core.Showing.{ShowsFiles}
 use Rattle.completeness.specs.Calls.{IsUnfailed, moment_of, Attaches, left_by, WantsMemory, AttachEnds, SyncEnds, CloseEnds, AnewEnds}
 use Rattle.completeness.specs.Mounts.{MountStands, MountUntroubled}
 use Rattle.completeness.specs.Premises.{Leaves}

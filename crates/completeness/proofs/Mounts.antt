@@ -6,20 +6,20 @@ use Rattle.answers.specs.Sessions.{Asked, FollowsAsked, is_violation, is_synced}
 use Rattle.answers.specs.declared.answer.Answer.{Answer}
 use Rattle.fs_model.specs.Instant.{Instant}
 use Rattle.fs_model.specs.Tree.{Tree}
-use Rattle.mount_tower.specs.Tower.{tower_holdings}
-use Rattle.mount.specs.declared.mount.Mount.{Mount}
-use Rattle.mount_core.specs.Answers.{OnSpent}
-use Rattle.mount_core.specs.Causes.{SpentCause}
-use Rattle.mount_core.specs.Standing.{Left}
+use Rattle.check_runs.specs.mount_tower.Tower.{tower_holdings}
+use Rattle.check_runs.specs.mount.declared.mount.Mount.{Mount}
+use Rattle.check_runs.specs.mount_core.Answers.{OnSpent}
+use Rattle.check_runs.specs.mount_core.Causes.{SpentCause}
+use Rattle.check_runs.specs.mount_core.Standing.{Left}
 use Rattle.outside.specs.Trace.{Call}
 use Rattle.outside.specs.declared.keeper.Keeper.{Ghosts as KeeperGhosts}
-use Rattle.session_runs.specs.Answering.{store_of, LineAnswered, MountAnswers}
-use Rattle.session_runs.specs.Lawful.{mount_lawful}
-use Rattle.mount_core.specs.Showing.{ShowsFiles}
+use Rattle.check_runs.specs.session_runs.Answering.{store_of, LineAnswered, MountAnswers}
+use Rattle.check_runs.specs.session_runs.Lawful.{mount_lawful}
+use Rattle.check_runs.specs.mount_core.Showing.{ShowsFiles}
 use Rattle.completeness.specs.Mounts.{MountStands, MountUntroubled, IsKeptNext, MountAnswered}
 use Rattle.completeness.specs.Sessions.{IsFaultless}
 use Rattle.completeness.proofs.Serving.{none_rose, one_unfailed}
-use Rattle.mount.specs.Tower.{tower}
+use Rattle.check_runs.specs.mount.Tower.{tower}
 
 module _ {V : Type 0} {K : Type 0} (trace : V → Option (List Call)) (faults : V → ℕ) (G : KeeperGhosts K) (now : Instant) (before after : Mount V K) (asked : Asked) (answer : Answer) (kept present : Tree) where
   abbrev Outcome : Type 0

@@ -5,27 +5,27 @@ use Rattle.std.specs.declared.result.Result.TheVariants.{Ok, Err}
 use Rattle.config_file.specs.Settings.{Settings, settings_of}
 use Rattle.config_file.specs.declared.error.ConfigError.TheVariants as config_error
 use Rattle.fs_model.specs.Tree.{Tree}
-use Rattle.mount.specs.Answering.{store_of, kept_of}
-use Rattle.mount.specs.Mounts.{Unopened}
-use Rattle.mount.specs.Serving.{MountMoves, MountSyncs, ChangesPassword, MountLeaves, MountCloses}
-use Rattle.mount.specs.declared.mount.Halted.{Halted}
-use Rattle.mount.specs.declared.mount.Mount.{Mount}
-use Rattle.mount_calls.specs.Migrating.{MigratesMount, Counts, ids_in}
-use Rattle.mount_migrating.specs.Migrating.{IsSpentAmong}
-use Rattle.mount_migrating.specs.declared.error.MigrateError.{MigrateError}
-use Rattle.mount_migrating.specs.declared.error.MigrateError.TheVariants as migrate_error
-use Rattle.mount_tower.specs.Identities.{HasEmptyList}
-use Rattle.mount_tower.specs.Tower.{vault_in, tower_holdings}
-use Rattle.mount_tower.specs.declared.error.OpenError.{OpenError}
-use Rattle.mount_tower.specs.declared.error.OpenError.TheVariants as open_error
+use Rattle.check_runs.specs.mount.Answering.{store_of, kept_of}
+use Rattle.check_runs.specs.mount.Mounts.{Unopened}
+use Rattle.check_runs.specs.mount.Serving.{MountMoves, MountSyncs, ChangesPassword, MountLeaves, MountCloses}
+use Rattle.check_runs.specs.mount.declared.mount.Halted.{Halted}
+use Rattle.check_runs.specs.mount.declared.mount.Mount.{Mount}
+use Rattle.check_runs.specs.mount_calls.Migrating.{MigratesMount, Counts, ids_in}
+use Rattle.check_runs.specs.mount_migrating.Migrating.{IsSpentAmong}
+use Rattle.check_runs.specs.mount_migrating.declared.error.MigrateError.{MigrateError}
+use Rattle.check_runs.specs.mount_migrating.declared.error.MigrateError.TheVariants as migrate_error
+use Rattle.check_runs.specs.mount_tower.Identities.{HasEmptyList}
+use Rattle.check_runs.specs.mount_tower.Tower.{vault_in, tower_holdings}
+use Rattle.check_runs.specs.mount_tower.declared.error.OpenError.{OpenError}
+use Rattle.check_runs.specs.mount_tower.declared.error.OpenError.TheVariants as open_error
 use Rattle.outside.specs.Causes.{RoseBy}
 use Rattle.outside.specs.Trace.{Call}
 use Rattle.outside.specs.declared.keeper.Keeper.{Ghosts as KeeperGhosts}
-use Rattle.session_runs.specs.Runs.{Outside, outside_of, OutsideStandsFor, PasswordOpens, lies}
-use Rattle.session_runs.specs.Turns.{Begun}
+use Rattle.check_runs.specs.session_runs.Runs.{Outside, outside_of, OutsideStandsFor, PasswordOpens, lies}
+use Rattle.check_runs.specs.session_runs.Turns.{Begun}
 use Rattle.session_saver.specs.declared.saver.SyncError.{SyncError}
 use Rattle.session_saver.specs.declared.saver.SyncError.TheVariants as sync_error
-use Rattle.mount_core.specs.Showing.{ShowsFiles}
+use Rattle.check_runs.specs.mount_core.Showing.{ShowsFiles}
 use Rattle.completeness.specs.Mounts.{MountStands, MountUntroubled}
 use Rattle.completeness.specs.Premises.{Leaves}
 

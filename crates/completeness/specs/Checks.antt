@@ -10,15 +10,15 @@ use Rattle.fs_model.specs.Tree.{Tree}
 use Rattle.line_io.specs.Lines.{first_line}
 use Rattle.line_io.specs.Streams.{Stream}
 use Rattle.local_state.specs.Record.{PlainState}
-use Rattle.mount_tower.specs.Opening.{IsLoaded}
+use Rattle.check_runs.specs.mount_tower.Opening.{IsLoaded}
 use Rattle.outside.specs.Changes.{FileChanges}
 use Rattle.outside.specs.Trace.{Call}
 use Rattle.outside.specs.declared.keeper.Keeper.{Ghosts as KeeperGhosts}
 use Rattle.run_status.specs.declared.ended.Ended.{Ended}
 use Rattle.run_status.specs.declared.status.Status.{Status}
 use Rattle.run_status.specs.declared.status.Status.TheVariants.{Memory}
-use Rattle.session_runs.specs.Openings.{HasCauses}
-use Rattle.session_runs.specs.Runs.{Outside}
+use Rattle.check_runs.specs.session_runs.Openings.{HasCauses}
+use Rattle.check_runs.specs.session_runs.Runs.{Outside}
 use Rattle.completeness.specs.Premises.{OfRun, IsUntroubled, Finds, Leaves}
 use Rattle.completeness.specs.Setups.{IsDone}
 

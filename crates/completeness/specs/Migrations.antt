@@ -4,20 +4,20 @@ use Rattle.std.specs.declared.option.Option.{Option}
 use Rattle.answers.specs.Texts.{text_of_answer}
 use Rattle.answers.specs.declared.answer.Answer.TheVariants as answer
 use Rattle.config_file.specs.Settings.{Settings}
-use Rattle.cryfs_setup.specs.Migrate.{RanMigrate, IsCount, IsSpentIn}
+use Rattle.check_runs.specs.cryfs_setup.Migrate.{RanMigrate, IsCount, IsSpentIn}
 use Rattle.fs_model.specs.Tree.{Tree}
 use Rattle.line_io.specs.Lines.{first_line}
 use Rattle.line_io.specs.Streams.{Stream}
 use Rattle.local_state.specs.Record.{PlainState}
-use Rattle.mount_calls.specs.Migrating.{KeepsNewest}
-use Rattle.mount_tower.specs.Opening.{IsLoaded}
+use Rattle.check_runs.specs.mount_calls.Migrating.{KeepsNewest}
+use Rattle.check_runs.specs.mount_tower.Opening.{IsLoaded}
 use Rattle.outside.specs.Changes.{FileChanges}
 use Rattle.outside.specs.Trace.{Call}
 use Rattle.outside.specs.declared.keeper.Keeper.{Ghosts as KeeperGhosts}
 use Rattle.run_status.specs.declared.ended.Ended.{Ended}
 use Rattle.run_status.specs.declared.status.Status.{Status}
-use Rattle.session_runs.specs.Runs.{Outside}
-use Rattle.setup_texts.specs.MigrateText.{count_text}
+use Rattle.check_runs.specs.session_runs.Runs.{Outside}
+use Rattle.check_runs.specs.setup_texts.MigrateText.{count_text}
 use Rattle.completeness.specs.Checks.{StaysUntold}
 use Rattle.completeness.specs.Premises.{OfRun, IsUntroubled, Finds}
 use Rattle.completeness.specs.Setups.{IsDone}

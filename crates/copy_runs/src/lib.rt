@@ -16,3 +16,4 @@ pub use get::run_get;
 pub use import::run_import;
 pub use put::run_put;
 pub use request::CopyRequest;
+pub use shell_sessions::{run_command, run_generate, run_shell};

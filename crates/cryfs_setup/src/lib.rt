@@ -11,5 +11,7 @@ mod passwd;
 pub use create::run_create;
 pub use info::run_info;
 pub use migrate::run_migrate;
+pub use mount::Mount;
+pub use mount_calls::{close, condemn};
 pub use opening::open;
 pub use passwd::run_passwd;

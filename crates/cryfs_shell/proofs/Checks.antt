@@ -11,7 +11,7 @@ use Rattle.cryfs_shell.proofs.Sessions.{IsUnreadStatus, one_unread, unread_is_no
 use Rattle.fs_model.specs.Tree.{Tree}
 use Rattle.held_blocks.specs.Standing.{records}
 use Rattle.line_io.specs.Streams.{Stream}
-use Rattle.mount_core.specs.Standing.{IsKeptMarked}
+use Rattle.check_runs.specs.mount_core.Standing.{IsKeptMarked}
 use Rattle.outside.specs.Trace.{Call}
 use Rattle.outside.specs.declared.keeper.Keeper.{Ghosts as KeeperGhosts}
 use Rattle.passwords.specs.Passwords.{PasswordUnread}
@@ -19,10 +19,10 @@ use Rattle.run_status.specs.declared.ended.Ended.{Ended}
 use Rattle.run_status.specs.declared.status.Status.{Status}
 use Rattle.run_status.specs.declared.status.Status.TheVariants.{Usage, LongPassword, Violation, OutputFault, HostFault}
 use Rattle.session_lines.specs.Driven.{IsUnfailed}
-use Rattle.session_runs.proofs.Whole.{only_opens}
-use Rattle.session_runs.specs.Openings.{AreUncalled, HasCauses}
-use Rattle.session_runs.specs.Runs.{OutsideStandsFor, outside_of}
-use Rattle.mount_core.specs.Showing.{ShowsFiles}
+use Rattle.check_runs.proofs.session_runs.Whole.{only_opens}
+use Rattle.check_runs.specs.session_runs.Openings.{AreUncalled, HasCauses}
+use Rattle.check_runs.specs.session_runs.Runs.{OutsideStandsFor, outside_of}
+use Rattle.check_runs.specs.mount_core.Showing.{ShowsFiles}
 
 not_bad : (bad : Bool) → (bad ≡ true → ⊥) → bad ≡ false
 not_bad false calm = refl

@@ -7,18 +7,18 @@ use Rattle.answers.specs.Sessions.{Exchange}
 use Rattle.fs_model.specs.Instant.{Instant}
 use Rattle.held_blocks.specs.Standing.{records}
 use Rattle.line_io.specs.Streams.{Stream}
-use Rattle.mount_tower.specs.Drawing.{drawn}
-use Rattle.mount_core.specs.Standing.{IsKeptMarked}
+use Rattle.check_runs.specs.mount_tower.Drawing.{drawn}
+use Rattle.check_runs.specs.mount_core.Standing.{IsKeptMarked}
 use Rattle.outside.specs.Causes.{RoseBy}
 use Rattle.outside.specs.Trace.{Call}
 use Rattle.outside.specs.declared.keeper.Keeper.{Ghosts as KeeperGhosts}
-use Rattle.session_runs.specs.Openings.{AreUncalled}
+use Rattle.check_runs.specs.session_runs.Openings.{AreUncalled}
 use Rattle.run_status.specs.declared.ended.Ended.{Ended}
 use Rattle.run_status.specs.declared.status.Status.{Status}
 use Rattle.run_status.specs.declared.status.Status.TheVariants.{Done, Usage, LongPassword, Violation, HostFault}
 use Rattle.session_lines.specs.declared.end.End.{End}
-use Rattle.session_runs.specs.Runs.{outside_of}
-use Rattle.shell_sessions.specs.Sessions.{ComesShell, ComesGenerated, ComesCommand}
+use Rattle.check_runs.specs.session_runs.Runs.{outside_of}
+use Rattle.copy_runs.specs.shell_sessions.Sessions.{ComesShell, ComesGenerated, ComesCommand}
 use Rattle.shell_words.specs.declared.form.Form.{Form}
 use Rattle.shell_words.specs.declared.form.Form.TheVariants.{Trial, TrialGenerate, Create, Info, Passwd, Migrate, Shell, Generate, Command, Import, Export, Put, Get, Check, Survey}
 use Rattle.shell_words.specs.Forms.{joined}

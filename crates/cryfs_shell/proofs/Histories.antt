@@ -3,35 +3,34 @@ use Rattle.std.proofs.Common.{◌≡◌, ℕ, Bool, false, List, [], refl, sym, 
 use Rattle.std.specs.declared.option.Option.{Option}
 use Rattle.std.specs.declared.option.Option.TheVariants.{Some}
 use Rattle.rand_core.specs.Stream.{Stream as Chance}
-use Rattle.answers.specs.Sessions.{Exchange}
+use Rattle.answers.specs.Sessions.{Exchange, is_violation}
 use Rattle.check_runs.specs.Judging.{is_bad}
 use Rattle.check_runs.specs.Running.{RanCheck}
 use Rattle.check_runs.specs.SurveyRuns.{RanSurvey}
 use Rattle.check_runs.proofs.Leaving.{examined_run}
 use Rattle.check_runs.proofs.SurveyLeaving.{quiet_run}
-use Rattle.answers.specs.Sessions.{is_violation}
-use Rattle.cryfs_setup.specs.Info.{Told}
-use Rattle.cryfs_setup.specs.Migrate.{RanMigrate}
-use Rattle.cryfs_setup.specs.Passwd.{RanPasswd}
+use Rattle.check_runs.specs.cryfs_setup.Info.{Told}
+use Rattle.check_runs.specs.cryfs_setup.Migrate.{RanMigrate}
+use Rattle.check_runs.specs.cryfs_setup.Passwd.{RanPasswd}
 use Rattle.fs_model.specs.Instant.{Instant}
 use Rattle.histories.specs.Histories.{Run, session, quiet, examined, migrated}
 use Rattle.line_io.specs.Streams.{Stream}
 use Rattle.outside.specs.Trace.{Call}
 use Rattle.outside.specs.declared.keeper.Keeper.{Ghosts as KeeperGhosts}
-use Rattle.session_runs.specs.Openings.{AreUncalled}
+use Rattle.check_runs.specs.session_runs.Openings.{AreUncalled}
 use Rattle.run_status.specs.declared.ended.Ended.{Ended}
 use Rattle.run_status.specs.declared.status.Status.{Status}
 use Rattle.session_lines.specs.declared.end.End.{End}
-use Rattle.session_runs.specs.Runs.{Outside, outside_of, IsQuietRun}
-use Rattle.shell_sessions.specs.Sessions.{Session}
+use Rattle.check_runs.specs.session_runs.Runs.{Outside, outside_of, IsQuietRun}
+use Rattle.copy_runs.specs.shell_sessions.Sessions.{Session}
 use Rattle.shell_words.specs.declared.form.Form.{Form}
 use Rattle.shell_words.specs.declared.form.Form.TheVariants.{Trial, TrialGenerate, Create, Info, Passwd, Migrate, Shell, Generate, Command, Import, Export, Put, Get, Check, Survey}
 use Rattle.shell_words.specs.Forms.{form_of, is_create}
 use Rattle.shell_words.proofs.FormsOf.{IsPlain, other_is_other}
-use Rattle.mount_core.specs.Showing.{ShowsFiles}
+use Rattle.check_runs.specs.mount_core.Showing.{ShowsFiles}
 use Rattle.cryfs_shell.proofs.Checks.{ends_by, bad_by}
 use Rattle.cryfs_shell.proofs.Migrations as migrations
-use Rattle.mount_migrating.specs.Migrating.{told}
+use Rattle.check_runs.specs.mount_migrating.Migrating.{told}
 use Rattle.cryfs_shell.specs.Doing.{Did}
 use Rattle.cryfs_shell.specs.Streams.{Streams}
 use Rattle.cryfs_shell.specs.History.{Comes, Judges, Meets, IsRunOf}

@@ -10,8 +10,8 @@ use Rattle.passwords.specs.Passwords.{PasswordUnread, PasswordsUnread}
 use Rattle.run_status.specs.declared.ended.Ended.{Ended}
 use Rattle.run_status.specs.declared.status.Status.{Status}
 use Rattle.run_status.specs.declared.status.Status.TheVariants.{Done, Usage, Violation, DirectoryFault, StateFault, InputFault, OutputFault, Memory, HostFault}
-use Rattle.session_runs.specs.Openings.{AreUncalled, IsUnread}
-use Rattle.session_runs.specs.Runs.{outside_of}
+use Rattle.check_runs.specs.session_runs.Openings.{AreUncalled, IsUnread}
+use Rattle.check_runs.specs.session_runs.Runs.{outside_of}
 use Rattle.shell_words.specs.declared.form.Form.{Form}
 use Rattle.shell_words.specs.declared.form.Form.TheVariants.{Trial, TrialGenerate, Create, Info, Passwd, Migrate, Shell, Generate, Command, Import, Export, Put, Get, Check, Survey}
 use Rattle.shell_words.specs.Forms.{takes_memory}

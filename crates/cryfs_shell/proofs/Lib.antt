@@ -13,3 +13,8 @@ pub mod Histories
 pub mod Files
 mod Idle
 mod Asked
+-- Handed on to crates above, which name their lemmas so and needn't list them.
+pub use Rattle.check_runs.proofs as check_runs
+pub use Rattle.check_runs.proofs.mount as mount
+pub use Rattle.check_runs.proofs.mount_calls as mount_calls
+pub use Rattle.check_runs.proofs.mount_tower as mount_tower

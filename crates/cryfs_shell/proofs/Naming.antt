@@ -16,30 +16,30 @@ use Rattle.host_folder.specs.Folders.{HostPath}
 use Rattle.row_copy.specs.declared.stop.Stop.{Stop}
 use Rattle.row_copy.specs.declared.stop.Stop.TheVariants as stop
 use Rattle.answers.specs.Sessions.{Exchange, is_violation, violated}
-use Rattle.mount_migrating.specs.Migrating.{told}
+use Rattle.check_runs.specs.mount_migrating.Migrating.{told}
 use Rattle.block_id.specs.declared.id.BlockId.{BlockId}
 use Rattle.check_runs.specs.Running.{RanCheck}
 use Rattle.check_runs.specs.SurveyRuns.{RanSurvey}
 use Rattle.check_runs.proofs.Leaving.{directory_quiet}
 use Rattle.check_runs.proofs.SurveyLeaving as surveys
-use Rattle.cryfs_setup.specs.Create.{RanCreate}
-use Rattle.setup_texts.specs.CreateText.{Reports as CreateReports}
-use Rattle.cryfs_setup.specs.Info.{Told}
-use Rattle.cryfs_setup.specs.Migrate.{RanMigrate}
-use Rattle.cryfs_setup.specs.Passwd.{RanPasswd}
-use Rattle.setup_texts.specs.PasswdText.{Reports as ChangeReports}
-use Rattle.setup_texts.specs.Printing.{Printed}
-use Rattle.cryfs_setup.proofs.Ending.{ends}
+use Rattle.check_runs.specs.cryfs_setup.Create.{RanCreate}
+use Rattle.check_runs.specs.setup_texts.CreateText.{Reports as CreateReports}
+use Rattle.check_runs.specs.cryfs_setup.Info.{Told}
+use Rattle.check_runs.specs.cryfs_setup.Migrate.{RanMigrate}
+use Rattle.check_runs.specs.cryfs_setup.Passwd.{RanPasswd}
+use Rattle.check_runs.specs.setup_texts.PasswdText.{Reports as ChangeReports}
+use Rattle.check_runs.specs.setup_texts.Printing.{Printed}
+use Rattle.check_runs.proofs.cryfs_setup.Ending.{ends}
 use Rattle.fs_model.specs.Instant.{Instant}
 use Rattle.line_io.specs.Streams.{Stream, Untouched}
-use Rattle.mount_tower.specs.Drawing.{drawn}
-use Rattle.mount_tower.specs.declared.draws.Draws.{Draws}
-use Rattle.mount_tower.specs.declared.error.OpenError.{OpenError}
-use Rattle.mount_tower.specs.declared.error.OpenError.TheVariants.{FaultDirectory, FaultState}
+use Rattle.check_runs.specs.mount_tower.Drawing.{drawn}
+use Rattle.check_runs.specs.mount_tower.declared.draws.Draws.{Draws}
+use Rattle.check_runs.specs.mount_tower.declared.error.OpenError.{OpenError}
+use Rattle.check_runs.specs.mount_tower.declared.error.OpenError.TheVariants.{FaultDirectory, FaultState}
 use Rattle.outside.specs.Trace.{Call}
 use Rattle.outside.specs.declared.keeper.Keeper.{Ghosts as KeeperGhosts}
 use Rattle.passwords.specs.Passwords.{PasswordUnread, PasswordsUnread}
-use Rattle.session_runs.specs.Openings.{AreUncalled, IsUnread, IsUnopened}
+use Rattle.check_runs.specs.session_runs.Openings.{AreUncalled, IsUnread, IsUnopened}
 use Rattle.run_status.specs.Statuses.{first_of}
 use Rattle.run_edges.specs.Statuses.{opening_status, closing_status, session_status}
 use Rattle.run_status.specs.declared.ended.Ended.{Ended}
@@ -49,10 +49,10 @@ use Rattle.scrypt_kdf.specs.Cost.{Cost}
 use Rattle.session_lines.specs.Driven.{EndsAs, Reported, IsUnfailed}
 use Rattle.session_lines.specs.declared.end.End.{End}
 use Rattle.session_lines.specs.declared.end.End.TheVariants as line_end
-use Rattle.session_runs.specs.Runs.{outside_of, directory_fault, state_fault}
+use Rattle.check_runs.specs.session_runs.Runs.{outside_of, directory_fault, state_fault}
 use Rattle.session_saver.specs.declared.saver.SyncError.{SyncError}
 use Rattle.session_saver.specs.declared.saver.SyncError.TheVariants as sync_error
-use Rattle.shell_sessions.specs.Sessions.{Session, ComesShell, ComesGenerated, ComesCommand}
+use Rattle.copy_runs.specs.shell_sessions.Sessions.{Session, ComesShell, ComesGenerated, ComesCommand}
 use Rattle.shell_words.specs.declared.form.Form.{Form}
 use Rattle.shell_words.specs.declared.form.Form.TheVariants.{Trial, TrialGenerate, Create, Info, Passwd, Migrate, Shell, Generate, Command, Import, Export, Put, Get, Check, Survey}
 use Rattle.shell_words.specs.Forms.{joined}

@@ -9,26 +9,26 @@ use Rattle.fs_model.specs.Tree.{Tree}
 use Rattle.held_blocks.specs.Standing.{records}
 use Rattle.line_io.specs.Lines.{first_of, first_line}
 use Rattle.line_io.specs.Streams.{Stream, Untouched}
-use Rattle.mount_tower.specs.Identities.{HasEmptyList}
-use Rattle.mount_tower.specs.declared.error.OpenError.{OpenError}
-use Rattle.mount.proofs.Reading.{loaded_unmarked}
-use Rattle.mount_core.specs.Standing.{IsKeptMarked}
+use Rattle.check_runs.specs.mount_tower.Identities.{HasEmptyList}
+use Rattle.check_runs.specs.mount_tower.declared.error.OpenError.{OpenError}
+use Rattle.check_runs.proofs.mount.Reading.{loaded_unmarked}
+use Rattle.check_runs.specs.mount_core.Standing.{IsKeptMarked}
 use Rattle.outside.specs.Causes.{RoseBy}
 use Rattle.outside.specs.Trace.{Call}
 use Rattle.outside.specs.declared.keeper.Keeper.{Ghosts as KeeperGhosts}
 use Rattle.passwords.specs.Passwords.{InputFailed, IsNextPassword, PasswordUnread, PasswordsUnread}
-use Rattle.session_runs.specs.Openings.{AreUncalled, IsUnread, IsUnopened}
-use Rattle.session_runs.proofs.Unopened.{caused}
+use Rattle.check_runs.specs.session_runs.Openings.{AreUncalled, IsUnread, IsUnopened}
+use Rattle.check_runs.proofs.session_runs.Unopened.{caused}
 use Rattle.run_status.specs.declared.ended.Ended.{Ended}
 use Rattle.run_status.specs.declared.status.Status.{Status}
 use Rattle.run_status.specs.declared.status.Status.TheVariants.{Done, Usage, LongPassword, Violation, DirectoryFault, StateFault, InputFault, OutputFault, Memory, HostFault}
 use Rattle.session_lines.specs.declared.end.End.{End}
-use Rattle.session_runs.specs.Runs.{Outside, outside_of, OutsideStandsFor, OpensTo, OpensOnlyTo, directory_fault, state_fault}
-use Rattle.session_runs.proofs.Whole.{only_opens, unviolated}
-use Rattle.shell_sessions.specs.Sessions.{Session, IsServed}
+use Rattle.check_runs.specs.session_runs.Runs.{Outside, outside_of, OutsideStandsFor, OpensTo, OpensOnlyTo, directory_fault, state_fault}
+use Rattle.check_runs.proofs.session_runs.Whole.{only_opens, unviolated}
+use Rattle.copy_runs.specs.shell_sessions.Sessions.{Session, IsServed}
 use Rattle.run_edges.specs.Statuses.{session_status, IsOwn}
 use Rattle.run_edges.proofs.Owns.{not_own, none_before}
-use Rattle.mount_core.specs.Showing.{ShowsFiles}
+use Rattle.check_runs.specs.mount_core.Showing.{ShowsFiles}
 use Rattle.cryfs_shell.specs.Clauses.{IsRefusingStatus, IsRefusedRun, IsOpenedRun, OpensOnlyRun, NoFalseAlarm, KeepsTree, FaultsHappened, IsEmptied}
 use Rattle.cryfs_shell.proofs.Statuses.{EndCause, opening_is_no, session_is_no, stops_is_refusal, session_directory, session_state, session_input, session_output, done_is_calm, done_is_closed, calm_is_no_alarm, host_is_own}
 

@@ -5,31 +5,30 @@ use Rattle.std.specs.declared.option.Option.{Option}
 use Rattle.std.specs.declared.result.Result.TheVariants.{Ok, Err}
 use Rattle.rand_core.specs.Stream.{Stream as Chance}
 use Rattle.block_id.specs.declared.id.BlockId.{BlockId}
-use Rattle.cryfs_setup.specs.Create.{RanCreate}
-use Rattle.setup_texts.specs.CreateText.{Reports as CreateReports}
-use Rattle.cryfs_setup.specs.Info.{Told}
-use Rattle.cryfs_setup.specs.Passwd.{RanPasswd, IsChanged}
-use Rattle.setup_texts.specs.PasswdText.{Reports as ChangeReports, changed_text}
-use Rattle.setup_texts.specs.CreateText.{created_text}
-use Rattle.setup_texts.specs.Printing.{Printed}
-use Rattle.cryfs_setup.proofs.Ending.{ends}
+use Rattle.check_runs.specs.cryfs_setup.Create.{RanCreate}
+use Rattle.check_runs.specs.setup_texts.CreateText.{Reports as CreateReports, created_text}
+use Rattle.check_runs.specs.cryfs_setup.Info.{Told}
+use Rattle.check_runs.specs.cryfs_setup.Passwd.{RanPasswd, IsChanged}
+use Rattle.check_runs.specs.setup_texts.PasswdText.{Reports as ChangeReports, changed_text}
+use Rattle.check_runs.specs.setup_texts.Printing.{Printed}
+use Rattle.check_runs.proofs.cryfs_setup.Ending.{ends}
 use Rattle.held_blocks.specs.Standing.{records}
 use Rattle.line_io.specs.Streams.{Stream, HasFailed}
-use Rattle.mount_tower.specs.declared.draws.Draws.{Draws}
-use Rattle.mount_tower.specs.declared.error.OpenError.{OpenError}
-use Rattle.mount_tower.specs.declared.error.OpenError.TheVariants as open_error
-use Rattle.mount_tower.specs.Making.{CreateCause}
-use Rattle.mount_core.specs.Standing.{IsKeptMarked}
+use Rattle.check_runs.specs.mount_tower.declared.draws.Draws.{Draws}
+use Rattle.check_runs.specs.mount_tower.declared.error.OpenError.{OpenError}
+use Rattle.check_runs.specs.mount_tower.declared.error.OpenError.TheVariants as open_error
+use Rattle.check_runs.specs.mount_tower.Making.{CreateCause}
+use Rattle.check_runs.specs.mount_core.Standing.{IsKeptMarked}
 use Rattle.outside.specs.Trace.{Call}
 use Rattle.outside.specs.declared.keeper.Keeper.{Ghosts as KeeperGhosts}
 use Rattle.passwords.specs.Passwords.{PasswordUnread, PasswordsUnread}
-use Rattle.session_runs.specs.Openings.{AreUncalled, HasCauses}
+use Rattle.check_runs.specs.session_runs.Openings.{AreUncalled, HasCauses}
 use Rattle.run_edges.specs.Statuses.{opening_status, closing_status}
 use Rattle.run_status.specs.declared.ended.Ended.{Ended}
 use Rattle.run_status.specs.declared.status.Status.{Status}
 use Rattle.run_status.specs.declared.status.Status.TheVariants.{Done, Usage, LongPassword, Violation, InputFault, OutputFault, HostFault}
 use Rattle.scrypt_kdf.specs.Cost.{Cost}
-use Rattle.session_runs.specs.Runs.{outside_of}
+use Rattle.check_runs.specs.session_runs.Runs.{outside_of}
 use Rattle.session_saver.specs.declared.saver.SyncError.{SyncError}
 use Rattle.session_saver.specs.declared.saver.SyncError.TheVariants as sync_error
 use Rattle.cryfs_shell.specs.Clauses.{IsRefusedRun, NoFalseAlarm, KeepsTree, FaultsHappened}

@@ -9,17 +9,17 @@ use Rattle.cryfs_shell.proofs.Statuses.{IsOfOpening, opening_is_no}
 use Rattle.cryfs_shell.proofs.Sessions.{IsUnreadStatus, one_unread, unread_is_no, unread_faults, unread_refusal, unread_keeps, opens_under, only_under, unopened_faults, unopened_refusal, unopened_alarm, unopened_keeps, grown}
 use Rattle.held_blocks.specs.Standing.{records}
 use Rattle.line_io.specs.Streams.{Stream}
-use Rattle.mount_core.specs.Standing.{IsKeptMarked}
+use Rattle.check_runs.specs.mount_core.Standing.{IsKeptMarked}
 use Rattle.outside.specs.Trace.{Call}
 use Rattle.outside.specs.declared.keeper.Keeper.{Ghosts as KeeperGhosts}
 use Rattle.passwords.specs.Passwords.{PasswordUnread}
 use Rattle.run_status.specs.declared.ended.Ended.{Ended}
 use Rattle.run_status.specs.declared.status.Status.{Status}
 use Rattle.run_status.specs.declared.status.Status.TheVariants.{Usage, LongPassword, Violation, HostFault}
-use Rattle.session_runs.proofs.Whole.{only_opens}
-use Rattle.session_runs.specs.Openings.{AreUncalled, HasCauses}
-use Rattle.session_runs.specs.Runs.{outside_of}
-use Rattle.mount_core.specs.Showing.{ShowsFiles}
+use Rattle.check_runs.proofs.session_runs.Whole.{only_opens}
+use Rattle.check_runs.specs.session_runs.Openings.{AreUncalled, HasCauses}
+use Rattle.check_runs.specs.session_runs.Runs.{outside_of}
+use Rattle.check_runs.specs.mount_core.Showing.{ShowsFiles}
 
 of_survey : {V : Type 0} {K : Type 0} (trace : V → Option (List Call)) (faults : V → ℕ) (names : V → Option (List (List ℕ))) (G : KeeperGhosts K) (password : List ℕ) (output : Stream) (vault : V) (keeper : K) (ended : Ended V K)
     → IsRefusalTold trace faults names G password output vault keeper ended → CheckStatus ended.status

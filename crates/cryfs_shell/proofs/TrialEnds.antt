@@ -7,14 +7,14 @@ use Rattle.line_io.specs.Streams.{Stream, HasFailed}
 use Rattle.outside.specs.Trace.{Call}
 use Rattle.outside.specs.declared.keeper.Keeper.{Ghosts as KeeperGhosts}
 use Rattle.passwords.specs.Passwords.{InputFailed}
-use Rattle.session_runs.specs.Openings.{AreUncalled}
+use Rattle.check_runs.specs.session_runs.Openings.{AreUncalled}
 use Rattle.run_status.specs.declared.ended.Ended.{Ended}
 use Rattle.run_status.specs.declared.status.Status.{Status}
 use Rattle.run_status.specs.declared.status.Status.TheVariants.{Done, DirectoryFault, StateFault, InputFault, OutputFault, Memory}
 use Rattle.session_lines.specs.Driven.{EndsAs, Reported}
 use Rattle.session_lines.specs.declared.end.End.{End}
 use Rattle.session_lines.specs.declared.end.End.TheVariants as line_end
-use Rattle.session_runs.specs.Runs.{outside_of}
+use Rattle.check_runs.specs.session_runs.Runs.{outside_of}
 use Rattle.cryfs_shell.specs.Clauses.{FaultsHappened}
 use Rattle.plain_trials.specs.Runs.{Tried, GeneratedOnPlain, status_of}
 use Rattle.cryfs_shell.proofs.Statuses.{EndCause}

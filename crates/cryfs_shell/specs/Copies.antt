@@ -13,7 +13,7 @@ use Rattle.outside.specs.declared.keeper.Keeper.{Ghosts as KeeperGhosts}
 use Rattle.run_status.specs.declared.ended.Ended.{Ended}
 use Rattle.run_status.specs.declared.status.Status.{Status}
 use Rattle.session_lines.specs.declared.end.End.{End}
-use Rattle.shell_sessions.specs.Sessions.{Session, WasServed}
+use Rattle.copy_runs.specs.shell_sessions.Sessions.{Session, WasServed}
 use Rattle.shell_words.specs.Forms.{copy_path}
 use Rattle.cryfs_shell.specs.Hosts.{HostSeen, IsStill}
 

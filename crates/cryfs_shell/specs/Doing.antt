@@ -4,20 +4,20 @@ use Rattle.std.specs.declared.option.Option.{Option}
 use Rattle.std.specs.declared.option.Option.TheVariants.{None, Some}
 use Rattle.check_runs.specs.Running.{RanCheck}
 use Rattle.check_runs.specs.SurveyRuns.{RanSurvey}
-use Rattle.cryfs_setup.specs.Create.{RanCreate}
-use Rattle.cryfs_setup.specs.Info.{Told}
-use Rattle.cryfs_setup.specs.Migrate.{RanMigrate}
-use Rattle.cryfs_setup.specs.Passwd.{RanPasswd}
+use Rattle.check_runs.specs.cryfs_setup.Create.{RanCreate}
+use Rattle.check_runs.specs.cryfs_setup.Info.{Told}
+use Rattle.check_runs.specs.cryfs_setup.Migrate.{RanMigrate}
+use Rattle.check_runs.specs.cryfs_setup.Passwd.{RanPasswd}
 use Rattle.fs_model.specs.Instant.{Instant}
 use Rattle.line_io.specs.Streams.{Untouched}
-use Rattle.mount_tower.specs.Drawing.{drawn}
+use Rattle.check_runs.specs.mount_tower.Drawing.{drawn}
 use Rattle.outside.specs.Trace.{Call}
 use Rattle.outside.specs.declared.keeper.Keeper.{Ghosts as KeeperGhosts}
-use Rattle.session_runs.specs.Openings.{AreUncalled, HasCauses}
+use Rattle.check_runs.specs.session_runs.Openings.{AreUncalled, HasCauses}
 use Rattle.run_status.specs.declared.ended.Ended.{Ended}
 use Rattle.run_status.specs.declared.status.Status.{Status}
-use Rattle.session_runs.specs.Runs.{Outside}
-use Rattle.shell_sessions.specs.Sessions.{Session, ComesShell, ComesGenerated, ComesCommand}
+use Rattle.check_runs.specs.session_runs.Runs.{Outside}
+use Rattle.copy_runs.specs.shell_sessions.Sessions.{Session, ComesShell, ComesGenerated, ComesCommand}
 use Rattle.shell_words.specs.declared.form.Form.{Form}
 use Rattle.shell_words.specs.declared.form.Form.TheVariants.{Trial, TrialGenerate, Create, Info, Passwd, Migrate, Shell, Generate, Command, Import, Export, Put, Get, Check, Survey}
 use Rattle.shell_words.specs.Forms.{joined}

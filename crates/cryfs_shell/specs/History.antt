@@ -11,13 +11,13 @@ use Rattle.run_status.specs.declared.status.Status.{Status}
 use Rattle.run_status.specs.declared.status.Status.TheVariants.{Violation}
 use Rattle.line_io.specs.Streams.{Stream}
 use Rattle.session_lines.specs.declared.end.End.{End}
-use Rattle.session_runs.specs.Openings.{HasPassword}
-use Rattle.session_runs.specs.Runs.{Outside}
-use Rattle.shell_sessions.specs.Sessions.{ComesShell, ComesGenerated, ComesCommand}
+use Rattle.check_runs.specs.session_runs.Openings.{HasPassword}
+use Rattle.check_runs.specs.session_runs.Runs.{Outside}
+use Rattle.copy_runs.specs.shell_sessions.Sessions.{ComesShell, ComesGenerated, ComesCommand}
 use Rattle.shell_words.specs.declared.form.Form.{Form}
 use Rattle.shell_words.specs.declared.form.Form.TheVariants.{Migrate, Shell, Generate, Command, Import, Export, Put, Get, Check}
 use Rattle.shell_words.specs.Forms.{form_of, is_create, joined}
-use Rattle.mount_core.specs.Showing.{ShowsFiles}
+use Rattle.check_runs.specs.mount_core.Showing.{ShowsFiles}
 
 -- how the exchanges of what the words ask for come from what follows the password line, and are written; only sessions have some
 abbrev pub Comes : List (List ℕ) → Streams → Option Form → Option (List ℕ) → End → Status → List Exchange → Type 0

@@ -4,10 +4,10 @@ ghost use Rattle.std.specs.declared.option.Option.TheVariants.{Some};
 ghost use Rattle.std.specs.String.{string_bytes};
 ghost use Rattle.held_blocks.specs.Standing.{records};
 ghost use Rattle.line_io.specs.Streams.{stream_of};
-ghost use Rattle.mount_core.specs.Standing.{IsKeptMarked};
-ghost use Rattle.session_runs.specs.Drawing.{DrawsVectors, DrawsAs};
-ghost use Rattle.session_runs.specs.Runs.{outside_of};
-ghost use Rattle.shell_sessions.specs.Sessions.{Session, ComesCommand};
+ghost use Rattle.check_runs.specs.mount_core.Standing.{IsKeptMarked};
+ghost use Rattle.check_runs.specs.session_runs.Drawing.{DrawsVectors, DrawsAs};
+ghost use Rattle.check_runs.specs.session_runs.Runs.{outside_of};
+ghost use Rattle.copy_runs.specs.shell_sessions.Sessions.{Session, ComesCommand};
 ghost use Rattle.shell_words.specs.Forms.{form_of, joined, IsModest};
 ghost use Rattle.cryfs_shell.specs.Clauses.{IsRefusedRun, NoFalseAlarm, KeepsTree, TellsFaults, StatusSays, Spares};
 ghost use Rattle.cryfs_shell.specs.Copies.{HostSession, Imports, Exports, Puts, Gets};
@@ -19,9 +19,10 @@ ghost use Rattle.cryfs_shell.specs.Streams.{NoneFalls, streams_of};
 
 use crate::request::Request;
 use block_id::Memory;
-use check_runs::{run_check, run_survey};
-use copy_runs::{CopyRequest, run_export, run_get, run_import, run_put};
-use cryfs_setup::{run_create, run_info, run_migrate, run_passwd};
+use check_runs::{run_check, run_create, run_info, run_migrate, run_passwd, run_survey};
+use copy_runs::{
+    CopyRequest, run_command, run_export, run_generate, run_get, run_import, run_put, run_shell,
+};
 use fs_model::Moment;
 use host_folder::Folder;
 use listing::Listing;
@@ -29,7 +30,6 @@ use outside::{Keeper, Sink, Source, Vault};
 use plain_trials::{try_generated, try_lines};
 use rand_core::Rng;
 use run_status::{Ended, Status, Storage};
-use shell_sessions::{run_command, run_generate, run_shell};
 use shell_words::{CreateOptions, Form, copy_path, joined, read_form};
 use std::alloc::Global;
 

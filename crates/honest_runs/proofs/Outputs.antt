@@ -6,14 +6,14 @@ use Rattle.std.specs.declared.result.Result.TheVariants.{Ok, Err}
 use Rattle.answers.specs.Sessions.{violated}
 use Rattle.block_id.specs.declared.id.BlockId.{BlockId}
 use Rattle.config_file.specs.declared.error.ConfigError.TheVariants as config_error
-use Rattle.cryfs_setup.specs.Create.{RanCreate}
+use Rattle.cryfs_shell.specs.cryfs_setup.Create.{RanCreate}
 use Rattle.fs_model.specs.Instant.{Instant}
 use Rattle.line_io.specs.Streams.{Stream}
-use Rattle.mount_tower.specs.declared.draws.Draws.{Draws}
-use Rattle.mount.specs.Making.{KnowsOnly}
-use Rattle.mount_tower.specs.Making.{root_of}
-use Rattle.mount_tower.specs.declared.error.OpenError.{OpenError}
-use Rattle.mount_tower.specs.declared.error.OpenError.TheVariants as open_error
+use Rattle.cryfs_shell.specs.mount_tower.declared.draws.Draws.{Draws}
+use Rattle.cryfs_shell.specs.mount.Making.{KnowsOnly}
+use Rattle.cryfs_shell.specs.mount_tower.Making.{root_of}
+use Rattle.cryfs_shell.specs.mount_tower.declared.error.OpenError.{OpenError}
+use Rattle.cryfs_shell.specs.mount_tower.declared.error.OpenError.TheVariants as open_error
 use Rattle.outside.specs.Trace.{Call}
 use Rattle.outside.specs.declared.keeper.Keeper.{Ghosts as KeeperGhosts}
 use Rattle.passwords.specs.Passwords.{PasswordUnread}
@@ -27,9 +27,9 @@ use Rattle.session_lines.specs.Driven.{IsUnfailed}
 use Rattle.session_lines.specs.declared.end.End.{End}
 use Rattle.session_lines.specs.declared.end.End.TheVariants.{Finished, InputFault, OutputFault}
 use Rattle.session_saver.specs.declared.saver.SyncError.{SyncError}
-use Rattle.setup_texts.specs.CreateText.{Reports, created_text}
-use Rattle.setup_texts.specs.Printing.{Printed}
-use Rattle.shell_sessions.specs.Sessions.{Session, IsServed, ComesShell}
+use Rattle.cryfs_shell.specs.setup_texts.CreateText.{Reports, created_text}
+use Rattle.cryfs_shell.specs.setup_texts.Printing.{Printed}
+use Rattle.cryfs_shell.specs.shell_sessions.Sessions.{Session, IsServed, ComesShell}
 
 -- ---- create
 printed : (output : Stream) (text : List ℕ) (ended : Status) → Printed output text ended → IsUnfailed output ⊎ (ended ≡ status.OutputFault)

@@ -13,15 +13,15 @@ use Rattle.completeness.specs.Sessions.{IsFaultless, AreFaultless}
 use Rattle.held_blocks.specs.Stores.{version_in}
 use Rattle.line_io.specs.Lines.{lines, is_newline, onto_first}
 use Rattle.local_state.specs.Record.{PlainState}
-use Rattle.mount.specs.Making.{KnowsOnly}
-use Rattle.mount_core.specs.Answers.{OnSpent}
-use Rattle.mount_tower.specs.Opening.{IsLoaded}
-use Rattle.mount_tower.proofs.Reading.{are_known}
+use Rattle.cryfs_shell.specs.mount.Making.{KnowsOnly}
+use Rattle.cryfs_shell.specs.mount_core.Answers.{OnSpent}
+use Rattle.cryfs_shell.specs.mount_tower.Opening.{IsLoaded}
+use Rattle.cryfs_shell.proofs.mount_tower.Reading.{are_known}
 use Rattle.outside.specs.Changes.{FileChanges}
 use Rattle.passwords.specs.Passwords.{IsNextPassword}
 use Rattle.script_text.specs.Grammar.{command_of}
 use Rattle.session_lines.specs.Asking.{asked_in, AskedAll}
-use Rattle.session_runs.specs.Causes.{AreSpent, SpentSince}
+use Rattle.cryfs_shell.specs.session_runs.Causes.{AreSpent, SpentSince}
 use Rattle.store_api.specs.Content.{same_id}
 use Rattle.store_api.proofs.Rising.{same_id_is}
 use Rattle.honest_runs.specs.Made.{password}

@@ -9,7 +9,7 @@ use Rattle.completeness.specs.Premises.{IsUntroubled, Finds, Leaves}
 use Rattle.completeness.specs.Sessions.{FindsNoMemory, IsComplete, SessionsComplete}
 use Rattle.completeness.specs.Setups.{IsDone, IsBare, StaysOrMakes, CreateCompletes}
 use Rattle.config_file.specs.Settings.{Settings}
-use Rattle.cryfs_setup.specs.Create.{RanCreate}
+use Rattle.cryfs_shell.specs.cryfs_setup.Create.{RanCreate}
 use Rattle.cryfs_shell.specs.Clauses.{NoFalseAlarm}
 use Rattle.fs_model.specs.Instant.{Instant}
 use Rattle.fs_model.specs.Tree.{Tree, empty_tree}
@@ -20,11 +20,11 @@ use Rattle.line_io.specs.Streams.{Stream, TookMost}
 use Rattle.local_state.specs.Record.{PlainState}
 use Rattle.memory_outside.specs.Keepers.{KeeperState}
 use Rattle.memory_outside.specs.Vaults.{VaultState}
-use Rattle.mount.specs.Making.{KnowsOnly}
-use Rattle.mount.specs.Representing.{Represents}
-use Rattle.mount_tower.specs.Making.{new_settings}
-use Rattle.mount_tower.specs.Opening.{IsLoaded}
-use Rattle.mount_tower.specs.declared.draws.Draws.{Draws}
+use Rattle.cryfs_shell.specs.mount.Making.{KnowsOnly}
+use Rattle.cryfs_shell.specs.mount.Representing.{Represents}
+use Rattle.cryfs_shell.specs.mount_tower.Making.{new_settings}
+use Rattle.cryfs_shell.specs.mount_tower.Opening.{IsLoaded}
+use Rattle.cryfs_shell.specs.mount_tower.declared.draws.Draws.{Draws}
 use Rattle.outside.specs.Causes.{RoseBy}
 use Rattle.outside.specs.Changes.{FileChanges}
 use Rattle.outside.specs.Streams.{appends}
@@ -36,11 +36,11 @@ use Rattle.run_status.specs.declared.status.Status.{Status}
 use Rattle.run_status.specs.declared.status.Status.TheVariants.{Done, Memory, OutputFault, Violation}
 use Rattle.session_lines.specs.Asking.{said_in}
 use Rattle.session_lines.specs.Driven.{IsUnfailed}
-use Rattle.session_runs.specs.Runs.{Outside, outside_of, lies}
-use Rattle.setup_texts.specs.CreateText.{created_text}
-use Rattle.shell_sessions.specs.Sessions.{Session, ComesShell}
+use Rattle.cryfs_shell.specs.session_runs.Runs.{Outside, outside_of, lies}
+use Rattle.cryfs_shell.specs.setup_texts.CreateText.{created_text}
+use Rattle.cryfs_shell.specs.shell_sessions.Sessions.{Session, ComesShell}
 use Rattle.shell_words.specs.declared.create_options.CreateOptions.{CreateOptions}
-use Rattle.mount_core.specs.Showing.{ShowsFiles}
+use Rattle.cryfs_shell.specs.mount_core.Showing.{ShowsFiles}
 use Rattle.honest_outside.specs.Honest.{IsHonestVault, IsHonestKeeper}
 use Rattle.honest_runs.specs.Made.{password, outside_in, IsWantOfMemory}
 use Rattle.honest_runs.specs.Transcript.{IsTranscript}

@@ -6,10 +6,10 @@ use Rattle.config_file.specs.Settings.{Settings}
 use Rattle.fs_model.specs.Tree.{empty_tree}
 use Rattle.memory_outside.specs.Keepers.{KeeperState}
 use Rattle.memory_outside.specs.Vaults.{VaultState}
-use Rattle.mount.specs.Making.{KnowsOnly}
+use Rattle.cryfs_shell.specs.mount.Making.{KnowsOnly}
 use Rattle.run_status.specs.declared.status.Status.{Status}
 use Rattle.run_status.specs.declared.status.Status.TheVariants.{Memory, OutputFault}
-use Rattle.session_runs.specs.Runs.{Outside}
+use Rattle.cryfs_shell.specs.session_runs.Runs.{Outside}
 
 -- the password of each file system that is made here
 abbrev pub password : List ℕ

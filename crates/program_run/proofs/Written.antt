@@ -5,9 +5,9 @@ use Rattle.std.specs.declared.option.Option.TheVariants.{None, Some}
 use Rattle.answers.specs.Sessions.{Exchange}
 use Rattle.answers.specs.Texts.{text_of_answer}
 use Rattle.config_file.specs.Settings.{Settings}
-use Rattle.cryfs_shell.specs.Doing.{Did}
-use Rattle.cryfs_shell.specs.Hosts.{HostSeen}
-use Rattle.cryfs_shell.specs.Streams.{streams_of}
+use Rattle.run_histories.specs.cryfs_shell.Doing.{Did}
+use Rattle.run_histories.specs.cryfs_shell.Hosts.{HostSeen}
+use Rattle.run_histories.specs.cryfs_shell.Streams.{streams_of}
 use Rattle.fs_model.specs.Instant.{Instant}
 use Rattle.fs_model.specs.Tree.{Tree}
 use Rattle.line_io.specs.Streams.{Stream, Untouched, Cut}
@@ -21,12 +21,12 @@ use Rattle.run_status.specs.declared.status.Status.{Status}
 use Rattle.session_lines.specs.Asking.{said_in, CutLast, single}
 use Rattle.session_lines.specs.declared.end.End.{End}
 use Rattle.session_lines.specs.declared.end.End.TheVariants.{Finished, InputFault, OutputFault}
-use Rattle.session_runs.specs.Runs.{Outside, outside_of, IsFounded}
-use Rattle.shell_sessions.specs.Sessions.{Session, IsServed, ComesShell, ComesCommand}
+use Rattle.run_histories.specs.session_runs.Runs.{Outside, outside_of, IsFounded}
+use Rattle.run_histories.specs.shell_sessions.Sessions.{Session, IsServed, ComesShell, ComesCommand}
 use Rattle.shell_words.specs.declared.form.Form.{Form}
 use Rattle.shell_words.specs.declared.form.Form.TheVariants.{Trial, TrialGenerate, Create, Info, Passwd, Migrate, Shell, Generate, Command, Import, Export, Put, Get, Check, Survey}
 use Rattle.shell_words.specs.Forms.{form_of, joined}
-use Rattle.tree_commands.specs.Showing.{ShowsFiles}
+use Rattle.run_histories.specs.mount_core.Showing.{ShowsFiles}
 use Rattle.program_run.specs.Program.{told, program_call}
 use Rattle.program_run.specs.Written.{WroteSession, answers_lines, WritesSession}
 

@@ -2,7 +2,7 @@
 use Rattle.std.specs.Prelude.{ℕ, List}
 use Rattle.std.specs.declared.option.Option.{Option}
 use Rattle.std.specs.declared.option.Option.TheVariants.{None, Some}
-use Rattle.cryfs_shell.specs.Streams.{Streams}
+use Rattle.run_histories.specs.cryfs_shell.Streams.{Streams}
 use Rattle.fs_model.specs.Instant.{Instant}
 use Rattle.line_io.specs.Streams.{Stream}
 use Rattle.outside.specs.Trace.{Call}
@@ -12,7 +12,7 @@ use Rattle.run_status.specs.declared.ended.Ended.{Ended}
 use Rattle.run_status.specs.declared.status.Status.{Status}
 use Rattle.run_status.specs.declared.storage.Storage.{Storage}
 use Rattle.run_histories.specs.Calls.{RunCall}
-use Rattle.session_runs.specs.Runs.{Outside}
+use Rattle.run_histories.specs.session_runs.Runs.{Outside}
 
 -- the calls that a block directory tells, its faults, its names, of which it tells none, and what is seen of a local record
 abbrev pub folder_calls : FolderVaultState → Option (List Call)

@@ -7,11 +7,11 @@ use Rattle.config_file.specs.Settings.{Settings}
 use Rattle.fs_model.specs.Instant.{Instant}
 use Rattle.fs_model.specs.Tree.{Tree}
 use Rattle.session_lines.specs.Asking.{said_in}
-use Rattle.session_runs.specs.Runs.{Outside, IsFounded}
+use Rattle.run_histories.specs.session_runs.Runs.{Outside, IsFounded}
 use Rattle.shell_words.specs.declared.form.Form.{Form}
 use Rattle.shell_words.specs.declared.form.Form.TheVariants.{Shell, Command}
 use Rattle.shell_words.specs.Forms.{form_of}
-use Rattle.tree_commands.specs.Showing.{ShowsFiles}
+use Rattle.run_histories.specs.mount_core.Showing.{ShowsFiles}
 
 -- what was written behind the old bytes are the texts of the answers of a session of the plain tree from this tree on; some of them may be cut off at the end
 pub record WroteSession (now : Instant) (first : Tree) (old new : List ℕ) : Type 0 where

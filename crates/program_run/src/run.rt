@@ -1,21 +1,20 @@
 // The program's one call, over real folders.
 ghost use Rattle.std.specs.Prelude.{◌≡◌, [], ◌∷◌, map};
 ghost use Rattle.std.specs.String.{string_bytes};
-ghost use Rattle.cryfs_shell.specs.Hosts.{host_of};
-ghost use Rattle.cryfs_shell.specs.Streams.{streams_of};
+ghost use Rattle.run_histories.specs.cryfs_shell.Hosts.{host_of};
+ghost use Rattle.run_histories.specs.cryfs_shell.Streams.{streams_of};
 ghost use Rattle.real_streams.specs.Adapters.{source_faults, sink_faults, written_by};
 ghost use Rattle.run_histories.specs.Calls.{IsRunCall};
 ghost use Rattle.run_histories.specs.Lists.{AreRunCalls};
 ghost use Rattle.program_run.specs.Written.{WritesSession};
 ghost use Rattle.program_run.specs.Program.{folder_calls, folder_faults, folder_names, folder_record, at_first, at_last, untold, told, program_call};
 
-use cryfs_shell::Request;
 use host_folder::Folder;
 use program_inputs::Inputs;
 use rand_core::Rng;
 use real_folders::{FolderKeeper, FolderVault};
 use real_streams::{ReaderSource, WriterSink};
-use run_histories::run_call;
+use run_histories::{Request, run_call};
 use run_status::{Ended, Storage};
 use std::alloc::Global;
 use std::io::{Read, Write};

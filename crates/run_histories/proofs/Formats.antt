@@ -9,13 +9,13 @@ use Rattle.std.proofs.lemmas.Option.{same_Some}
 use Rattle.answers.specs.Texts.{text_of_answer}
 use Rattle.block_id.specs.declared.id.BlockId.{BlockId}
 use Rattle.line_io.specs.Streams.{Untouched}
-use Rattle.mount.specs.Formats.{TakesFrom}
-use Rattle.mount_calls.specs.Migrating.{KeepsNewest}
-use Rattle.mount_calls.proofs.Newest.{newest_takes}
-use Rattle.mount_migrating.specs.Migrating.{answer_of}
-use Rattle.mount_migrating.specs.declared.error.MigrateError.{MigrateError}
-use Rattle.mount_migrating.specs.declared.error.MigrateError.TheVariants as error
-use Rattle.mount_tower.specs.declared.error.OpenError.{OpenError}
+use Rattle.cryfs_shell.specs.mount.Formats.{TakesFrom}
+use Rattle.cryfs_shell.specs.mount_calls.Migrating.{KeepsNewest}
+use Rattle.cryfs_shell.proofs.mount_calls.Newest.{newest_takes}
+use Rattle.cryfs_shell.specs.mount_migrating.Migrating.{answer_of}
+use Rattle.cryfs_shell.specs.mount_migrating.declared.error.MigrateError.{MigrateError}
+use Rattle.cryfs_shell.specs.mount_migrating.declared.error.MigrateError.TheVariants as error
+use Rattle.cryfs_shell.specs.mount_tower.declared.error.OpenError.{OpenError}
 use Rattle.outside.specs.Streams.{appends}
 use Rattle.outside.specs.Trace.{Call}
 use Rattle.outside.specs.declared.keeper.Keeper.{Ghosts as KeeperGhosts}
@@ -23,14 +23,14 @@ use Rattle.run_status.specs.declared.status.Status.TheVariants.{Done}
 use Rattle.session_lines.specs.Driven.{Reported}
 use Rattle.session_lines.specs.declared.end.End.{End}
 use Rattle.session_lines.specs.declared.end.End.TheVariants as line_end
-use Rattle.session_runs.specs.Runs.{Outside}
-use Rattle.setup_texts.specs.CreateText.{Reports}
-use Rattle.setup_texts.specs.MigrateText.{count_text, migrated_text}
+use Rattle.cryfs_shell.specs.session_runs.Runs.{Outside}
+use Rattle.cryfs_shell.specs.setup_texts.CreateText.{Reports}
+use Rattle.cryfs_shell.specs.setup_texts.MigrateText.{count_text, migrated_text}
 use Rattle.shell_words.specs.declared.create_options.CreateOptions.{CreateOptions}
 use Rattle.shell_words.specs.declared.form.Form.{Form}
 use Rattle.shell_words.specs.declared.form.Form.TheVariants.{Create, Migrate}
 use Rattle.shell_words.specs.Forms.{form_of}
-use Rattle.mount_core.specs.Showing.{ShowsFiles}
+use Rattle.cryfs_shell.specs.mount_core.Showing.{ShowsFiles}
 use Rattle.cryfs_shell.specs.Doing.{Did}
 use Rattle.cryfs_shell.specs.Kinds.{opens}
 use Rattle.cryfs_shell.proofs.Statuses.{opening_is_no}

@@ -3,13 +3,13 @@ use Rattle.std.specs.Prelude.{◌≡◌, ℕ, true, false, List}
 use Rattle.std.specs.declared.option.Option.{Option}
 use Rattle.fs_model.specs.Instant.{Instant}
 use Rattle.held_blocks.specs.Standing.{records}
-use Rattle.mount_core.specs.Standing.{IsKeptMarked}
+use Rattle.cryfs_shell.specs.mount_core.Standing.{IsKeptMarked}
 use Rattle.outside.specs.Trace.{Call}
 use Rattle.outside.specs.declared.keeper.Keeper.{Ghosts as KeeperGhosts}
 use Rattle.run_status.specs.declared.ended.Ended.{Ended}
 use Rattle.run_status.specs.declared.status.Status.{Status}
-use Rattle.session_runs.specs.Drawing.{DrawsAs}
-use Rattle.session_runs.specs.Runs.{Outside, outside_of}
+use Rattle.cryfs_shell.specs.session_runs.Drawing.{DrawsAs}
+use Rattle.cryfs_shell.specs.session_runs.Runs.{Outside, outside_of}
 use Rattle.shell_words.specs.Forms.{form_of}
 use Rattle.cryfs_shell.specs.Clauses.{IsRefusedRun, NoFalseAlarm, KeepsTree, TellsFaults, StatusSays}
 use Rattle.cryfs_shell.specs.Doing.{Did}

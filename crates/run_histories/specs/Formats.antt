@@ -2,12 +2,12 @@
 use Rattle.std.specs.Prelude.{◌≡◌, ◌⊎◌, ◌++◌, ℕ, List}
 use Rattle.std.specs.declared.option.Option.{Option}
 use Rattle.std.specs.declared.option.Option.TheVariants.{Some}
-use Rattle.mount.specs.Formats.{TakesFrom}
+use Rattle.cryfs_shell.specs.mount.Formats.{TakesFrom}
 use Rattle.outside.specs.Trace.{Call}
 use Rattle.outside.specs.declared.keeper.Keeper.{Ghosts as KeeperGhosts}
 use Rattle.run_status.specs.declared.status.Status.TheVariants.{Done}
-use Rattle.session_runs.specs.Runs.{Outside}
-use Rattle.setup_texts.specs.MigrateText.{count_text}
+use Rattle.cryfs_shell.specs.session_runs.Runs.{Outside}
+use Rattle.cryfs_shell.specs.setup_texts.MigrateText.{count_text}
 use Rattle.shell_words.specs.declared.create_options.CreateOptions.{CreateOptions}
 use Rattle.shell_words.specs.declared.form.Form.TheVariants.{Create, Migrate}
 use Rattle.shell_words.specs.Forms.{form_of}

@@ -1,3 +1,8 @@
 pub mod Calls
 pub mod Lists
 pub mod Formats
+-- Handed on to crates above, which name their words so and needn't list them.
+pub use Rattle.cryfs_shell.specs as cryfs_shell
+pub use Rattle.cryfs_shell.specs.mount_core as mount_core
+pub use Rattle.cryfs_shell.specs.session_runs as session_runs
+pub use Rattle.cryfs_shell.specs.shell_sessions as shell_sessions

@@ -9,22 +9,22 @@ use Rattle.fs_model.specs.Tree.{Tree, empty_tree}
 use Rattle.held_blocks.specs.Standing.{records}
 use Rattle.line_io.specs.Lines.{first_line}
 use Rattle.line_io.specs.Streams.{Untouched}
-use Rattle.mount_tower.specs.Drawing.{drawn}
-use Rattle.mount_tower.specs.Making.{IsUnchanged, new_settings}
-use Rattle.mount_core.specs.Standing.{IsKeptMarked}
+use Rattle.cryfs_shell.specs.mount_tower.Drawing.{drawn}
+use Rattle.cryfs_shell.specs.mount_tower.Making.{IsUnchanged, new_settings}
+use Rattle.cryfs_shell.specs.mount_core.Standing.{IsKeptMarked}
 use Rattle.outside.specs.Trace.{Call}
 use Rattle.outside.specs.declared.keeper.Keeper.{Ghosts as KeeperGhosts}
-use Rattle.session_runs.specs.Openings.{HasPassword}
+use Rattle.cryfs_shell.specs.session_runs.Openings.{HasPassword}
 use Rattle.run_status.specs.Statuses.{first_of}
 use Rattle.run_status.specs.declared.status.Status.{Status}
 use Rattle.run_status.specs.declared.status.Status.TheVariants.{Done}
 use Rattle.session_lines.specs.declared.end.End.{End}
-use Rattle.session_runs.specs.Runs.{Outside, OutsideStandsFor}
+use Rattle.cryfs_shell.specs.session_runs.Runs.{Outside, OutsideStandsFor}
 use Rattle.run_edges.specs.Statuses.{session_status}
 use Rattle.shell_words.specs.declared.form.Form.{Form}
 use Rattle.shell_words.specs.declared.form.Form.TheVariants.{Create}
 use Rattle.shell_words.specs.Forms.{form_of}
-use Rattle.mount_core.specs.Showing.{ShowsFiles}
+use Rattle.cryfs_shell.specs.mount_core.Showing.{ShowsFiles}
 use Rattle.histories.specs.Histories.{Run, session, quiet, examined, migrated, before_of, after_of, IsRun, IsUnforgedRun, GoesOnFrom, end_of, Follow, EndsWith}
 use Rattle.cryfs_shell.specs.Clauses.{IsRefusingStatus, NoFalseAlarm, TellsFaults}
 use Rattle.cryfs_shell.specs.History.{Comes, Judges, Meets}

@@ -4,7 +4,7 @@ ghost use Rattle.std.specs.String.{string_bytes};
 ghost use Rattle.cryfs_shell.specs.Hosts.{host_of};
 ghost use Rattle.cryfs_shell.specs.Streams.{streams_of};
 ghost use Rattle.line_io.specs.Streams.{stream_of};
-ghost use Rattle.session_runs.specs.Runs.{outside_of};
+ghost use Rattle.cryfs_shell.specs.session_runs.Runs.{outside_of};
 ghost use Rattle.run_histories.specs.Calls.{IsRunCall, call_of};
 ghost use Rattle.run_histories.specs.Lists.{AreRunCalls};
 

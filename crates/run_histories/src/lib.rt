@@ -5,4 +5,5 @@ mod call;
 mod law;
 
 pub use call::run_call;
+pub use cryfs_shell::Request;
 pub use law::{every_list_of_runs, newest_stays, one_run};

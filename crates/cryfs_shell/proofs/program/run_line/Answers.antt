@@ -1,7 +1,7 @@
 use Rattle.std.proofs.Common.{ℕ, List, map, subst, ◌∙◌}
 use Rattle.std.specs.String.{string_bytes}
 use Rattle.line_io.specs.Streams.{stream_of}
-use Rattle.shell_sessions.specs.Sessions.{ComesCommand}
+use Rattle.copy_runs.specs.shell_sessions.Sessions.{ComesCommand}
 use Rattle.shell_words.specs.Forms.{joined}
 use Rattle.cryfs_shell.proofs.Copies.{session_as}
 use Rattle.cryfs_shell.proofs.program.run_line.Goals as goal

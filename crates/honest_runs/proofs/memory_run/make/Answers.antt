@@ -8,10 +8,10 @@ use Rattle.cryfs_shell.specs.Hosts.{host_of}
 use Rattle.cryfs_shell.specs.Streams.{streams_of}
 use Rattle.line_io.specs.Streams.{Stream}
 use Rattle.memory_outside.specs.Vaults.{VaultState}
-use Rattle.mount_tower.specs.Drawing.{drawn}
-use Rattle.mount_tower.specs.Making.{new_settings, root_of}
+use Rattle.cryfs_shell.specs.mount_tower.Drawing.{drawn}
+use Rattle.cryfs_shell.specs.mount_tower.Making.{new_settings, root_of}
 use Rattle.session_lines.specs.Driven.{IsUnfailed}
-use Rattle.session_runs.specs.Runs.{outside_of}
+use Rattle.cryfs_shell.specs.session_runs.Runs.{outside_of}
 use Rattle.store_api.specs.Durables.{last_told}
 use Rattle.shell_words.specs.Forms.{form_of}
 use Rattle.honest_outside.specs.contracts.honest_keeper.HonestKeeperKeeper.TheImpl as keeper_impl

@@ -1,6 +1,6 @@
 use Rattle.fs_model.specs.Tree.{empty_tree}
-use Rattle.mount_tower.specs.Drawing.{drawn}
-use Rattle.mount_tower.specs.Making.{new_settings}
+use Rattle.cryfs_shell.specs.mount_tower.Drawing.{drawn}
+use Rattle.cryfs_shell.specs.mount_tower.Making.{new_settings}
 use Rattle.run_histories.proofs.All.{runs_of, serve, made_stands}
 use Rattle.run_histories.proofs.law.every_list_of_runs.Goals as goal
 
