@@ -4,130 +4,186 @@ use listing::ByteLine;
 use std::alloc::Global;
 use std::test::Fail;
 use test_systems::{
-    Status, System, block, copy_files, expect, file, first_made, new_system, plain, session, store,
+    Run, Status, System, ask, block, copy_files, file, first_made, new_system, plain, play, store,
+    take,
 };
 
-/// The two blocks, and one name that is neither's.
-const FOUND: &str =
-    "check yes 2\nblock 00000000000000000000000000000001 /\nblock 76B8E0ADA0F13D90405D6AE55386BD28 /a\nstranger x\\x20y\n";
+/// A check of a sound system: the two blocks, and one name that is neither's.
+const FOUND: &str = "> check
+pw
+=
+check yes 2
+block 00000000000000000000000000000001 /
+block 76B8E0ADA0F13D90405D6AE55386BD28 /a
+stranger x\\x20y
+";
 
 /// A file system with one directory, and a strange file beside its own.
 fn with_stranger(alloc: Global) -> Result<System, Fail> {
-    let lines = "mkdir /a\n";
-    let mut system = session(alloc, new_system(alloc)?, lines, "ok\n", Status::Done)?;
+    let mut system = new_system(alloc)?;
+    ask(alloc, &mut system, "mkdir /a\n", "ok\n", Status::Done)?;
     let mut names = Vec::new(alloc);
     names.push(ByteLine::new(b"x y".to_vec(alloc)?))?;
     system.vault.set_strangers(names);
     Ok(system)
 }
 
-/// A check that has to print this and end with this status.
-fn check(alloc: Global, system: System, text: &str, status: Status) -> Result<System, Fail> {
-    expect(alloc, system, &plain(&["check"], "pw"), text, status)
-}
+const LISTED: &str = "> shell
+pw
+ls /
+=
+list 1
+d a
+";
 
 #[test]
 fn a_check_names_owners_and_strangers(rt: HostRuntime) -> Result<(), Fail> {
-    let alloc = rt.alloc();
-    let first = check(alloc, with_stranger(alloc)?, FOUND, Status::Done)?;
-    let second = check(alloc, first, FOUND, Status::Done)?;
-    session(alloc, second, "ls /\n", "list 1\nd a\n", Status::Done)?;
+    let mut system = with_stranger(rt.alloc())?;
+    play(rt.alloc(), &mut system, FOUND)?;
+    play(rt.alloc(), &mut system, FOUND)?;
+    play(rt.alloc(), &mut system, LISTED)
+}
+
+const MISSING: &str = "> check
+pw
+= integrity violation
+violation missing
+";
+
+const REFUSED: &str = "> check
+pw
+= integrity violation
+> shell
+pw
+ls /
+= integrity violation
+> ls|/
+pw
+= integrity violation
+> generate|8
+pw
+= integrity violation
+";
+
+/// Whether later runs are refused without a call.
+fn is_condemned(alloc: Global, system: &mut System) -> Result<bool, Fail> {
+    let calls = system.vault.trace().len();
+    play(alloc, system, REFUSED)?;
+    Ok(system.vault.trace().len() == calls)
+}
+
+/// The runs of these rows where the first block that a line made is gone. It is back afterwards.
+fn play_without(alloc: Global, system: &mut System, rows: &str) -> Result<(), Fail> {
+    let honest = copy_files(alloc, &system.vault)?;
+    store(alloc, system, first_made(0), None)?;
+    play(alloc, system, rows)?;
+    system.vault.set_files(honest);
     Ok(())
 }
 
 #[test]
 fn a_missing_block_condemns_the_record(rt: HostRuntime) -> Result<(), Fail> {
-    let alloc = rt.alloc();
-    let mut system = with_stranger(alloc)?;
-    let honest = copy_files(alloc, &system.vault)?;
-    store(alloc, &mut system, first_made(0), None)?;
-    let mut after = check(alloc, system, "violation missing\n", Status::Violation)?;
-    after.vault.set_files(honest);
-    let calls = after.vault.trace().len();
-    let line = ["ls", "/"];
-    let generated = ["generate", "8"];
-    let checked = check(alloc, after, "", Status::Violation)?;
-    let asked = session(alloc, checked, "ls /\n", "", Status::Violation)?;
-    let answered = expect(alloc, asked, &plain(&line, "pw"), "", Status::Violation)?;
-    let last = expect(
-        alloc,
-        answered,
-        &plain(&generated, "pw"),
-        "",
-        Status::Violation,
-    )?;
-    assert_eq!(rt; last.vault.trace().len(), calls);
+    let mut system = with_stranger(rt.alloc())?;
+    play_without(rt.alloc(), &mut system, MISSING)?;
+    assert!(rt; is_condemned(rt.alloc(), &mut system)?);
     Ok(())
 }
 
+/// Makes a second directory, and has the root's file be what it was before.
+fn roll_root_back(alloc: Global, system: &mut System) -> Result<(), Fail> {
+    let old = file(alloc, system.vault.files(), block(1))?;
+    ask(alloc, system, "mkdir /b\n", "ok\n", Status::Done)?;
+    Ok(store(alloc, system, block(1), Some(old))?)
+}
+
+const OLD: &str = "> check
+pw
+= integrity violation
+violation old-version 3 2
+> shell
+pw
+ls /
+= integrity violation
+";
+
 #[test]
 fn an_older_block_condemns_the_record(rt: HostRuntime) -> Result<(), Fail> {
-    let alloc = rt.alloc();
-    let system = with_stranger(alloc)?;
-    let old = file(alloc, system.vault.files(), block(1))?;
-    let mut later = session(alloc, system, "mkdir /b\n", "ok\n", Status::Done)?;
-    store(alloc, &mut later, block(1), Some(old))?;
-    let after = check(
-        alloc,
-        later,
-        "violation old-version 3 2\n",
-        Status::Violation,
-    )?;
-    session(alloc, after, "ls /\n", "", Status::Violation)?;
-    Ok(())
+    let mut system = with_stranger(rt.alloc())?;
+    roll_root_back(rt.alloc(), &mut system)?;
+    play(rt.alloc(), &mut system, OLD)
+}
+
+const OTHER_WORDS: &str = "> check|/
+pw
+= usage
+> check
+px
+= configuration does not open
+";
+
+/// The first call on the output fails.
+fn is_unheard(alloc: Global, system: &mut System) -> Result<(), Fail> {
+    let torn = Run {
+        writes: &[1],
+        ..plain(&["check"], "pw")
+    };
+    take(alloc, system, &torn, "", Status::OutputFault)
 }
 
 #[test]
 fn a_check_takes_no_more_words_and_needs_the_password(rt: HostRuntime) -> Result<(), Fail> {
-    let alloc = rt.alloc();
-    let words = ["check", "/"];
-    let system = with_stranger(alloc)?;
-    let system = expect(alloc, system, &plain(&words, "pw"), "", Status::Usage)?;
-    let wrong = plain(&["check"], "px");
-    let system = expect(alloc, system, &wrong, "", Status::ConfigLocked)?;
-    let mut torn = plain(&["check"], "pw");
-    torn.writes = &[1];
-    let system = expect(alloc, system, &torn, "", Status::OutputFault)?;
-    check(alloc, system, FOUND, Status::Done)?;
-    Ok(())
+    let mut system = with_stranger(rt.alloc())?;
+    play(rt.alloc(), &mut system, OTHER_WORDS)?;
+    is_unheard(rt.alloc(), &mut system)?;
+    play(rt.alloc(), &mut system, FOUND)
 }
 
-/// A survey that has to print this and end with this status.
-fn survey(alloc: Global, system: System, text: &str, status: Status) -> Result<System, Fail> {
-    expect(
-        alloc,
-        system,
-        &plain(&["check", "--all"], "pw"),
-        text,
-        status,
-    )
-}
+/// A survey of a sound system.
+const SURVEYED: &str = "> check|--all
+pw
+=
+check yes 2
+block 00000000000000000000000000000001 /
+block 76B8E0ADA0F13D90405D6AE55386BD28 /a
+stranger x\\x20y
+";
+
+/// Two surveys where a block is gone.
+const REFUSED_TWICE: &str = "> check|--all
+pw
+= integrity violation
+violation missing
+block 76B8E0ADA0F13D90405D6AE55386BD28 /a violation missing
+refused 1
+> check|--all
+pw
+= integrity violation
+violation missing
+block 76B8E0ADA0F13D90405D6AE55386BD28 /a violation missing
+refused 1
+";
 
 #[test]
 fn a_survey_names_each_refused_block_and_marks_nothing(rt: HostRuntime) -> Result<(), Fail> {
-    let alloc = rt.alloc();
-    let mut sound = survey(alloc, with_stranger(alloc)?, FOUND, Status::Done)?;
-    let honest = copy_files(alloc, &sound.vault)?;
-    store(alloc, &mut sound, first_made(0), None)?;
-    let text =
-        "violation missing\nblock 76B8E0ADA0F13D90405D6AE55386BD28 /a violation missing\nrefused 1\n";
-    let first = survey(alloc, sound, text, Status::Violation)?;
-    let mut second = survey(alloc, first, text, Status::Violation)?;
-    second.vault.set_files(honest);
-    check(alloc, second, FOUND, Status::Done)?;
-    Ok(())
+    let mut system = with_stranger(rt.alloc())?;
+    play(rt.alloc(), &mut system, SURVEYED)?;
+    play_without(rt.alloc(), &mut system, REFUSED_TWICE)?;
+    play(rt.alloc(), &mut system, FOUND)
 }
+
+const BOTH_REFUSED: &str = "> check|--all
+pw
+= integrity violation
+violation old-version 3 2
+block 00000000000000000000000000000001 / violation old-version 3 2
+block 76B8E0ADA0F13D90405D6AE55386BD28 ? violation missing
+refused 2
+";
 
 #[test]
 fn what_is_below_a_refused_directory_has_no_path(rt: HostRuntime) -> Result<(), Fail> {
-    let alloc = rt.alloc();
-    let system = with_stranger(alloc)?;
-    let old = file(alloc, system.vault.files(), block(1))?;
-    let mut later = session(alloc, system, "mkdir /b\n", "ok\n", Status::Done)?;
-    store(alloc, &mut later, block(1), Some(old))?;
-    store(alloc, &mut later, first_made(0), None)?;
-    let text =
-        "violation old-version 3 2\nblock 00000000000000000000000000000001 / violation old-version 3 2\nblock 76B8E0ADA0F13D90405D6AE55386BD28 ? violation missing\nrefused 2\n";
-    survey(alloc, later, text, Status::Violation)?;
-    Ok(())
+    let mut system = with_stranger(rt.alloc())?;
+    roll_root_back(rt.alloc(), &mut system)?;
+    store(rt.alloc(), &mut system, first_made(0), None)?;
+    play(rt.alloc(), &mut system, BOTH_REFUSED)
 }

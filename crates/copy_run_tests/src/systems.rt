@@ -1,5 +1,5 @@
 // File systems in memory, and runs over them.
-use copy_runs::{CopyRequest, run_export, run_import};
+use copy_runs::{CopyRequest, run_command, run_export, run_import};
 use cryfs_setup::run_create;
 use folder_samples::fills_small;
 use fs_model::{Moment, Path};
@@ -8,7 +8,6 @@ use memory_outside::{MemoryKeeper, MemorySink, MemorySource, MemoryVault};
 use rand_pcg::Pcg32;
 use run_status::{Ended, Status, Storage};
 use scrypt_kdf::Params;
-use shell_sessions::run_command;
 use std::alloc::Global;
 use std::test::Fail;
 

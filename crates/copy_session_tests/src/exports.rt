@@ -1,75 +1,98 @@
 // Exports, and what they make.
 
-use crate::rows::{done, ends, imported, runs, runs_anew};
+use crate::rows::{play_anew_beside, play_imported_beside};
 use folder_samples::{has_rows, holds, leads};
 use memory_folder::MemoryFolder;
+use std::alloc::Global;
 use std::test::Fail;
-use test_systems::Status;
 
-#[test]
-fn what_was_imported_is_exported(rt: HostRuntime) -> Result<(), Fail> {
-    let alloc = rt.alloc();
-    let mut folder = MemoryFolder::new(alloc);
-    let rows = [
-        done(&["export", "/"], "exported 1 1 1 2\n"),
-        ends(&["export", "/"], "error not-empty /\n", Status::CopyRefused),
-    ];
-    runs(alloc, imported(alloc)?, &mut folder, &rows)?;
-    assert!(rt; has_rows(alloc, &mut folder, &[], &["dd", "ll"]));
-    assert!(rt; has_rows(alloc, &mut folder, &["d"], &["ff"]));
-    assert!(rt; holds(alloc, &mut folder, &["d", "f"], 0, b"ab"));
-    assert!(rt; leads(alloc, &mut folder, &["l"], "d/f"));
-    let again = [
-        done(&["import", "/"], "imported 1 1 1 2\n"),
-        done(&["read", "/d/f", "0", "9"], "data 6162\n"),
-        done(&["readlink", "/l"], "link d/f\n"),
-    ];
-    runs_anew(alloc, &mut folder, &again)?;
-    Ok(())
+const ONCE: &str = "> export|/
+pw
+=
+exported 1 1 1 2
+> export|/
+pw
+= copy refused
+error not-empty /
+";
+
+const AGAIN: &str = "> import|/
+pw
+=
+imported 1 1 1 2
+> read|/d/f|0|9
+pw
+=
+data 6162
+> readlink|/l
+pw
+=
+link d/f
+";
+
+/// Whether a folder has the rows of the small one.
+fn is_small(alloc: Global, folder: &mut MemoryFolder) -> bool {
+    has_rows(alloc, folder, &[], &["dd", "ll"])
+        && has_rows(alloc, folder, &["d"], &["ff"])
+        && holds(alloc, folder, &["d", "f"], 0, b"ab")
+        && leads(alloc, folder, &["l"], "d/f")
 }
 
 #[test]
+fn what_was_imported_is_exported(rt: HostRuntime) -> Result<(), Fail> {
+    let mut folder = MemoryFolder::new(rt.alloc());
+    play_imported_beside(rt.alloc(), &mut folder, ONCE)?;
+    assert!(rt; is_small(rt.alloc(), &mut folder));
+    play_anew_beside(rt.alloc(), &mut folder, AGAIN)
+}
+
+const DIRECTORIES: &str = "> export|/n
+pw
+= copy refused
+error no-entry /n
+> export|/l
+pw
+= copy refused
+error not-directory /l
+> export|/d
+pw
+=
+exported 0 1 0 2
+";
+
+#[test]
 fn only_a_directory_that_is_there_is_exported(rt: HostRuntime) -> Result<(), Fail> {
-    let alloc = rt.alloc();
-    let mut folder = MemoryFolder::new(alloc);
-    let rows = [
-        ends(
-            &["export", "/n"],
-            "error no-entry /n\n",
-            Status::CopyRefused,
-        ),
-        ends(
-            &["export", "/l"],
-            "error not-directory /l\n",
-            Status::CopyRefused,
-        ),
-        done(&["export", "/d"], "exported 0 1 0 2\n"),
-    ];
-    runs(alloc, imported(alloc)?, &mut folder, &rows)?;
-    assert!(rt; has_rows(alloc, &mut folder, &[], &["ff"]));
+    let mut folder = MemoryFolder::new(rt.alloc());
+    play_imported_beside(rt.alloc(), &mut folder, DIRECTORIES)?;
+    assert!(rt; has_rows(rt.alloc(), &mut folder, &[], &["ff"]));
     Ok(())
+}
+
+const FAULT: &str = "> export|/
+pw
+= host folder fault
+";
+
+/// What an export makes where the call of this number on the folder fails.
+fn export_failing(alloc: Global, call: u64) -> Result<MemoryFolder, Fail> {
+    let mut folder = MemoryFolder::new(alloc);
+    folder.fail_calls(Vec::from_elem(alloc, call, 1)?);
+    play_imported_beside(alloc, &mut folder, FAULT)?;
+    Ok(folder)
 }
 
 #[test]
 fn a_folder_that_fails_first_is_a_fault(rt: HostRuntime) -> Result<(), Fail> {
-    let alloc = rt.alloc();
-    let mut folder = MemoryFolder::new(alloc);
-    folder.fail_calls(Vec::from_elem(alloc, 1, 1)?);
-    let rows = [ends(&["export", "/"], "", Status::HostFault)];
-    runs(alloc, imported(alloc)?, &mut folder, &rows)?;
-    assert!(rt; has_rows(alloc, &mut folder, &[], &[]));
+    let mut folder = export_failing(rt.alloc(), 1)?;
+    assert!(rt; has_rows(rt.alloc(), &mut folder, &[], &[]));
     Ok(())
 }
 
 /// The third call makes the file.
 #[test]
 fn one_that_fails_later_has_a_part(rt: HostRuntime) -> Result<(), Fail> {
-    let alloc = rt.alloc();
-    let mut folder = MemoryFolder::new(alloc);
-    folder.fail_calls(Vec::from_elem(alloc, 3, 1)?);
-    let rows = [ends(&["export", "/"], "", Status::HostFault)];
-    runs(alloc, imported(alloc)?, &mut folder, &rows)?;
-    assert!(rt; has_rows(alloc, &mut folder, &[], &["dd"]));
-    assert!(rt; has_rows(alloc, &mut folder, &["d"], &[]));
+    let mut folder = export_failing(rt.alloc(), 3)?;
+    assert!(rt; has_rows(rt.alloc(), &mut folder, &[], &["dd"]));
+    assert!(rt; has_rows(rt.alloc(), &mut folder, &["d"], &[]));
     Ok(())
 }

@@ -1,95 +1,140 @@
 // Imports, and what later runs see of them.
 
-use crate::rows::{done, ends, runs_anew, small_folder};
+use crate::rows::{play_anew_beside, play_beside_failing, play_beside_small};
 use folder_samples::{Row, makes};
 use memory_folder::MemoryFolder;
 use std::test::Fail;
-use test_systems::Status;
+
+const ONCE: &str = "> import|/
+pw
+=
+imported 1 1 1 2
+> ls|/
+pw
+=
+list 2
+d d
+l l
+> read|/d/f|0|9
+pw
+=
+data 6162
+> readlink|/l
+pw
+=
+link d/f
+> import|/
+pw
+= copy refused
+error exists /d
+> ls|/
+pw
+=
+list 2
+d d
+l l
+";
 
 #[test]
 fn a_folder_is_imported_once(rt: HostRuntime) -> Result<(), Fail> {
-    let alloc = rt.alloc();
-    let mut folder = small_folder(alloc)?;
-    let rows = [
-        done(&["import", "/"], "imported 1 1 1 2\n"),
-        done(&["ls", "/"], "list 2\nd d\nl l\n"),
-        done(&["read", "/d/f", "0", "9"], "data 6162\n"),
-        done(&["readlink", "/l"], "link d/f\n"),
-        ends(&["import", "/"], "error exists /d\n", Status::CopyRefused),
-        done(&["ls", "/"], "list 2\nd d\nl l\n"),
-    ];
-    runs_anew(alloc, &mut folder, &rows)?;
-    Ok(())
+    play_beside_small(rt.alloc(), ONCE)
 }
+
+const TARGETS: &str = "> import|/n
+pw
+= copy refused
+error no-entry /n/d
+> mkfile|/n
+pw
+=
+ok
+> import|/n
+pw
+= copy refused
+error not-directory /n/d
+> mkdir|/m
+pw
+=
+ok
+> import|/m
+pw
+=
+imported 1 1 1 2
+> ls|/m
+pw
+=
+list 2
+d d
+l l
+> ls|/
+pw
+=
+list 2
+d m
+f n
+";
 
 #[test]
 fn a_target_is_a_directory_that_is_there(rt: HostRuntime) -> Result<(), Fail> {
-    let alloc = rt.alloc();
-    let mut folder = small_folder(alloc)?;
-    let rows = [
-        ends(
-            &["import", "/n"],
-            "error no-entry /n/d\n",
-            Status::CopyRefused,
-        ),
-        done(&["mkfile", "/n"], "ok\n"),
-        ends(
-            &["import", "/n"],
-            "error not-directory /n/d\n",
-            Status::CopyRefused,
-        ),
-        done(&["mkdir", "/m"], "ok\n"),
-        done(&["import", "/m"], "imported 1 1 1 2\n"),
-        done(&["ls", "/m"], "list 2\nd d\nl l\n"),
-        done(&["ls", "/"], "list 2\nd m\nf n\n"),
-    ];
-    runs_anew(alloc, &mut folder, &rows)?;
-    Ok(())
+    play_beside_small(rt.alloc(), TARGETS)
 }
+
+const FAILS_FIRST: &str = "> import|/
+pw
+= host folder fault
+> ls|/
+pw
+=
+list 0
+";
 
 #[test]
 fn a_folder_that_fails_first_is_a_fault(rt: HostRuntime) -> Result<(), Fail> {
-    let alloc = rt.alloc();
-    let mut folder = small_folder(alloc)?;
-    folder.fail_calls(Vec::from_elem(alloc, 1, 1)?);
-    let rows = [
-        ends(&["import", "/"], "", Status::HostFault),
-        done(&["ls", "/"], "list 0\n"),
-    ];
-    runs_anew(alloc, &mut folder, &rows)?;
-    Ok(())
+    play_beside_failing(rt.alloc(), 1, FAILS_FIRST)
 }
+
+const FAILS_LATER: &str = "> import|/
+pw
+= host folder fault
+> ls|/
+pw
+=
+list 1
+d d
+> ls|/d
+pw
+=
+list 1
+f f
+> read|/d/f|0|9
+pw
+=
+data -
+";
 
 /// The third call reads the file.
 #[test]
 fn one_that_fails_later_leaves_a_part(rt: HostRuntime) -> Result<(), Fail> {
-    let alloc = rt.alloc();
-    let mut folder = small_folder(alloc)?;
-    folder.fail_calls(Vec::from_elem(alloc, 3, 1)?);
-    let rows = [
-        ends(&["import", "/"], "", Status::HostFault),
-        done(&["ls", "/"], "list 1\nd d\n"),
-        done(&["ls", "/d"], "list 1\nf f\n"),
-        done(&["read", "/d/f", "0", "9"], "data -\n"),
-    ];
-    runs_anew(alloc, &mut folder, &rows)?;
-    Ok(())
+    play_beside_failing(rt.alloc(), 3, FAILS_LATER)
 }
+
+const ESCAPES: &str = "> import|/
+pw
+=
+imported 1 0 0 0
+> import|/
+pw
+= copy refused
+error exists /a\\x20b
+> import|/a\\x20b
+pw
+=
+imported 1 0 0 0
+";
 
 #[test]
 fn a_name_prints_with_escapes(rt: HostRuntime) -> Result<(), Fail> {
-    let alloc = rt.alloc();
-    let mut folder = MemoryFolder::new(alloc);
-    assert!(rt; makes(alloc, &mut folder, &["a b"], Row::Folder));
-    let rows = [
-        done(&["import", "/"], "imported 1 0 0 0\n"),
-        ends(
-            &["import", "/"],
-            "error exists /a\\x20b\n",
-            Status::CopyRefused,
-        ),
-        ends(&["import", "/a\\x20b"], "imported 1 0 0 0\n", Status::Done),
-    ];
-    runs_anew(alloc, &mut folder, &rows)?;
-    Ok(())
+    let mut folder = MemoryFolder::new(rt.alloc());
+    assert!(rt; makes(rt.alloc(), &mut folder, &["a b"], Row::Folder));
+    play_anew_beside(rt.alloc(), &mut folder, ESCAPES)
 }

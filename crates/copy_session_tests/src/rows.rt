@@ -1,57 +1,14 @@
-// Runs beside a folder, in tables.
+// Runs beside a folder, as rows of text.
 
 use folder_samples::fills_small;
 use memory_folder::MemoryFolder;
 use std::alloc::Global;
 use std::test::Fail;
-use test_systems::{Status, System, expect_beside, new_system, plain};
-
-/// A run: its words and its input, what it has to write, and how it has to end.
-#[derive(Clone, Copy)]
-pub struct Row<'a> {
-    pub words: &'a [&'a str],
-    pub input: &'a str,
-    pub text: &'a str,
-    pub status: Status,
-}
-
-/// A run under the password `pw`, as it has to be where all goes well.
-pub fn done<'a>(words: &'a [&'a str], text: &'a str) -> Row<'a> {
-    ends(words, text, Status::Done)
-}
-
-/// A run under the password `pw` that ends so.
-pub fn ends<'a>(words: &'a [&'a str], text: &'a str, status: Status) -> Row<'a> {
-    Row {
-        words,
-        input: "pw",
-        text,
-        status,
-    }
-}
-
-/// The runs of the rows, one after another.
-pub fn runs(
-    alloc: Global,
-    system: System,
-    folder: &mut MemoryFolder,
-    rows: &[Row<'_>],
-) -> Result<System, Fail> {
-    let mut system = system;
-    for row in rows {
-        let case = plain(row.words, row.input);
-        system = expect_beside(alloc, system, &case, folder, row.text, row.status)?;
-    }
-    Ok(system)
-}
+use test_systems::{System, new_system, play_beside};
 
 /// The runs of the rows over a new file system.
-pub fn runs_anew(
-    alloc: Global,
-    folder: &mut MemoryFolder,
-    rows: &[Row<'_>],
-) -> Result<System, Fail> {
-    runs(alloc, new_system(alloc)?, folder, rows)
+pub fn play_anew_beside(alloc: Global, folder: &mut MemoryFolder, rows: &str) -> Result<(), Fail> {
+    play_beside(alloc, &mut new_system(alloc)?, folder, rows)
 }
 
 /// The directory `d` with the file `f` of `ab` and the link `l` to it.
@@ -64,12 +21,36 @@ pub fn small_folder(alloc: Global) -> Result<MemoryFolder, Fail> {
     }
 }
 
+/// The runs of the rows over a new file system, beside the small folder.
+pub fn play_beside_small(alloc: Global, rows: &str) -> Result<(), Fail> {
+    play_anew_beside(alloc, &mut small_folder(alloc)?, rows)
+}
+
+/// The same where the call of this number on the folder fails.
+pub fn play_beside_failing(alloc: Global, call: u64, rows: &str) -> Result<(), Fail> {
+    let mut folder = small_folder(alloc)?;
+    folder.fail_calls(Vec::from_elem(alloc, call, 1)?);
+    play_anew_beside(alloc, &mut folder, rows)
+}
+
+const IMPORT: &str = "> import|/
+pw
+=
+imported 1 1 1 2
+";
+
 /// A file system into which the small folder was imported.
 pub fn imported(alloc: Global) -> Result<System, Fail> {
-    let mut folder = small_folder(alloc)?;
-    runs_anew(
-        alloc,
-        &mut folder,
-        &[done(&["import", "/"], "imported 1 1 1 2\n")],
-    )
+    let mut system = new_system(alloc)?;
+    play_beside(alloc, &mut system, &mut small_folder(alloc)?, IMPORT)?;
+    Ok(system)
+}
+
+/// The runs of the rows over that file system, beside this folder.
+pub fn play_imported_beside(
+    alloc: Global,
+    folder: &mut MemoryFolder,
+    rows: &str,
+) -> Result<(), Fail> {
+    play_beside(alloc, &mut imported(alloc)?, folder, rows)
 }

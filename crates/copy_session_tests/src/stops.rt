@@ -1,50 +1,72 @@
 // Copies that end before all is copied, since a command isn't answered.
 
-use crate::rows::{Row, ends, imported, runs, runs_anew, small_folder};
+use crate::rows::{imported, play_beside_small, small_folder};
 use std::alloc::Global;
 use std::test::Fail;
-use test_systems::{Status, block, failing_saves, new_system, store};
+use test_systems::{System, block, failing_saves, new_system, play_beside, store};
 
-/// A copy of the root, where the second call on the block directory, the first on a block, fails.
-fn stopped(alloc: Global, row: Row<'_>) -> Result<(), Fail> {
-    let mut system = new_system(alloc)?;
-    let mut folder = small_folder(alloc)?;
-    system.vault.fail_calls(Vec::from_elem(alloc, 2, 1)?);
-    runs(alloc, system, &mut folder, &[row])?;
-    Ok(())
+/// The runs of the rows over this file system, beside the small folder.
+fn play_over(alloc: Global, system: &mut System, rows: &str) -> Result<(), Fail> {
+    play_beside(alloc, system, &mut small_folder(alloc)?, rows)
 }
 
+const STOPPED: &str = "> import|/
+pw
+= copy stopped
+fault directory
+";
+
+/// The second call on the block directory, the first on a block, fails.
 #[test]
 fn a_fault_of_the_block_directory_is_told(rt: HostRuntime) -> Result<(), Fail> {
-    let row = ends(&["import", "/"], "fault directory\n", Status::CopyStopped);
-    stopped(rt.alloc(), row)
+    let mut system = new_system(rt.alloc())?;
+    let fails = Vec::from_elem(rt.alloc(), 2, 1)?;
+    system.vault.fail_calls(fails);
+    play_over(rt.alloc(), &mut system, STOPPED)
 }
+
+const MISSING: &str = "> import|/
+pw
+= integrity violation
+violation missing
+> export|/
+pw
+= integrity violation
+> ls|/
+pw
+= integrity violation
+";
 
 /// A block that is gone is told, and later runs are refused.
 #[test]
 fn a_violation_is_told_and_kept(rt: HostRuntime) -> Result<(), Fail> {
-    let alloc = rt.alloc();
-    let mut folder = small_folder(alloc)?;
-    let mut system = imported(alloc)?;
-    store(alloc, &mut system, block(1), None)?;
-    let rows = [
-        ends(&["import", "/"], "violation missing\n", Status::Violation),
-        ends(&["export", "/"], "", Status::Violation),
-        ends(&["ls", "/"], "", Status::Violation),
-    ];
-    runs(alloc, system, &mut folder, &rows)?;
-    Ok(())
+    let mut system = imported(rt.alloc())?;
+    store(rt.alloc(), &mut system, block(1), None)?;
+    play_over(rt.alloc(), &mut system, MISSING)
+}
+
+const UNSAVED: &str = "> import|/
+pw
+= local state fault
+imported 1 1 1 2
+";
+
+const SAVED: &str = "> import|/
+pw
+=
+imported 1 1 1 2
+";
+
+/// A new file system whose first save fails.
+fn system_that_fails_to_save(alloc: Global) -> Result<System, Fail> {
+    let fails = vec![in alloc; (1, false)]?;
+    Ok(failing_saves(alloc, new_system(alloc)?, fails)?)
 }
 
 /// The record can't be saved as the run closes.
 #[test]
 fn a_fault_of_closing_stands_before_a_refusal(rt: HostRuntime) -> Result<(), Fail> {
-    let alloc = rt.alloc();
-    let mut folder = small_folder(alloc)?;
-    let system = failing_saves(alloc, new_system(alloc)?, vec![in alloc; (1, false)]?)?;
-    let row = ends(&["import", "/"], "imported 1 1 1 2\n", Status::StateFault);
-    runs(alloc, system, &mut folder, &[row])?;
-    let row = ends(&["import", "/"], "imported 1 1 1 2\n", Status::Done);
-    runs_anew(alloc, &mut folder, &[row])?;
-    Ok(())
+    let mut system = system_that_fails_to_save(rt.alloc())?;
+    play_over(rt.alloc(), &mut system, UNSAVED)?;
+    play_beside_small(rt.alloc(), SAVED)
 }

@@ -1,47 +1,61 @@
 // What a copy is asked by.
 
-use crate::rows::{Row, ends, runs_anew};
+use crate::rows::play_anew_beside;
 use memory_folder::MemoryFolder;
 use std::test::Fail;
-use test_systems::Status;
 
 /// A copy takes one path, as a line of a script says it.
+const OTHER_WORDS: &str = "> import
+pw
+= usage
+> export
+pw
+= usage
+> put
+pw
+= usage
+> get
+pw
+= usage
+> import|a
+pw
+= usage
+> import|
+pw
+= usage
+> import|/a/../b
+pw
+= usage
+> import|/a b
+pw
+= usage
+> export|/\\x2
+pw
+= usage
+> import|/|/
+pw
+= usage
+> imports|/
+pw
+= usage
+";
+
 #[test]
 fn other_words_are_refused(rt: HostRuntime) -> Result<(), Fail> {
-    let alloc = rt.alloc();
-    let cases: [&[&str]; 11] = [
-        &["import"],
-        &["export"],
-        &["put"],
-        &["get"],
-        &["import", "a"],
-        &["import", ""],
-        &["import", "/a/../b"],
-        &["import", "/a b"],
-        &["export", "/\\x2"],
-        &["import", "/", "/"],
-        &["imports", "/"],
-    ];
-    let mut folder = MemoryFolder::new(alloc);
-    for words in cases {
-        runs_anew(alloc, &mut folder, &[ends(words, "", Status::Usage)])?;
-    }
-    Ok(())
+    let mut folder = MemoryFolder::new(rt.alloc());
+    play_anew_beside(rt.alloc(), &mut folder, OTHER_WORDS)
 }
+
+const OTHER_PASSWORD: &str = "> import|/
+px
+= configuration does not open
+> export|/
+px
+= configuration does not open
+";
 
 #[test]
 fn nothing_opens_under_another_password(rt: HostRuntime) -> Result<(), Fail> {
-    let alloc = rt.alloc();
-    let import = Row {
-        words: &["import", "/"],
-        input: "px",
-        text: "",
-        status: Status::ConfigLocked,
-    };
-    let export = Row {
-        words: &["export", "/"],
-        ..import
-    };
-    runs_anew(alloc, &mut MemoryFolder::new(alloc), &[import, export])?;
-    Ok(())
+    let mut folder = MemoryFolder::new(rt.alloc());
+    play_anew_beside(rt.alloc(), &mut folder, OTHER_PASSWORD)
 }

@@ -1,83 +1,144 @@
 // Sessions in which calls on the outside fail.
 
+use crate::left::leaves;
+use std::alloc::Global;
+use std::mem;
 use std::test::Fail;
 use test_systems::{
-    Status, ZEROS, expect, failing_saves, mended, new_system, outcome, plain, script, session,
+    Run, Status, System, ask, failing_saves, mended, new_system, nothing, plain, play, script, take,
 };
+
+/// Has nothing fail any more.
+fn mend(alloc: Global, system: &mut System) -> Result<(), Fail> {
+    let broken = mem::replace(system, nothing(alloc));
+    *system = mended(alloc, broken)?;
+    Ok(())
+}
+
+const IS_MADE: &str = "> shell
+pw
+ls /
+=
+list 1
+d a
+";
+
+const IS_NOT_PUT: &str = "> shell
+pw
+mkdir /a
+sync
+= block directory fault
+ok
+fault directory
+";
 
 #[test]
 fn what_was_saved_is_put_later(rt: HostRuntime) -> Result<(), Fail> {
-    let alloc = rt.alloc();
-    let mut system = new_system(alloc)?;
+    let mut system = new_system(rt.alloc())?;
     system.vault.fail_from(2);
-    let system = session(
-        alloc,
-        system,
-        "mkdir /a\nsync\n",
-        "ok\nfault directory\n",
-        Status::DirectoryFault,
-    )?;
-    let system = mended(alloc, system)?;
-    session(alloc, system, "ls /\n", "list 1\nd a\n", Status::Done)?;
-    Ok(())
+    play(rt.alloc(), &mut system, IS_NOT_PUT)?;
+    mend(rt.alloc(), &mut system)?;
+    play(rt.alloc(), &mut system, IS_MADE)
+}
+
+const IS_SAVED_AT_LAST: &str = "> shell
+pw
+mkdir /a
+sync
+sync
+=
+ok
+fault state
+ok
+> shell
+pw
+ls /
+=
+list 1
+d a
+";
+
+/// The first save fails, and keeps its record or doesn't.
+fn is_saved_at_last(alloc: Global, is_kept: bool) -> Result<(), Fail> {
+    let fails = [(1, is_kept)].to_vec(alloc)?;
+    let mut system = failing_saves(alloc, new_system(alloc)?, fails)?;
+    play(alloc, &mut system, IS_SAVED_AT_LAST)
 }
 
 #[test]
 fn a_sync_after_a_failed_save_keeps_all(rt: HostRuntime) -> Result<(), Fail> {
-    let alloc = rt.alloc();
-    for is_kept in [false, true] {
-        let fails = [(1, is_kept)].to_vec(alloc)?;
-        let system = failing_saves(alloc, new_system(alloc)?, fails)?;
-        let system = session(
-            alloc,
-            system,
-            "mkdir /a\nsync\nsync\n",
-            "ok\nfault state\nok\n",
-            Status::Done,
-        )?;
-        session(alloc, system, "ls /\n", "list 1\nd a\n", Status::Done)?;
-    }
-    Ok(())
+    is_saved_at_last(rt.alloc(), false)?;
+    is_saved_at_last(rt.alloc(), true)
+}
+
+const IS_NOT_SAVED: &str = "> shell
+pw
+mkdir /a
+sync
+= local state fault
+ok
+fault state
+";
+
+/// From the first save on all fails; it keeps its record or doesn't. A later session lists this.
+fn lists_later(alloc: Global, is_kept: bool, text: &str) -> Result<(), Fail> {
+    let mut system = new_system(alloc)?;
+    system.keeper.fail_from(1, is_kept);
+    system.vault.fail_from(1);
+    play(alloc, &mut system, IS_NOT_SAVED)?;
+    mend(alloc, &mut system)?;
+    ask(alloc, &mut system, "ls /\n", text, Status::Done)
 }
 
 #[test]
 fn a_stop_at_a_save_leaves_the_old_tree_or_the_new(rt: HostRuntime) -> Result<(), Fail> {
-    let alloc = rt.alloc();
-    for (is_kept, text) in [(false, "list 0\n"), (true, "list 1\nd a\n")] {
-        let mut system = new_system(alloc)?;
-        system.keeper.fail_from(1, is_kept);
-        system.vault.fail_from(1);
-        let system = session(
-            alloc,
-            system,
-            "mkdir /a\nsync\n",
-            "ok\nfault state\n",
-            Status::StateFault,
-        )?;
-        let system = mended(alloc, system)?;
-        session(alloc, system, "ls /\n", text, Status::Done)?;
-    }
-    Ok(())
+    lists_later(rt.alloc(), false, "list 0\n")?;
+    lists_later(rt.alloc(), true, "list 1\nd a\n")
+}
+
+const TWO: &str = "mkdir /a\nmkdir /b\n";
+
+/// The second call on the input fails.
+fn hears_one_line(alloc: Global, system: &mut System) -> Result<(), Fail> {
+    let input = script(alloc, TWO)?;
+    let torn = Run {
+        piece: 12,
+        reads: &[2],
+        ..plain(&["shell"], &input)
+    };
+    take(alloc, system, &torn, "ok\n", Status::InputFault)
+}
+
+/// The second call on the output fails.
+fn tells_a_part(alloc: Global, system: &mut System) -> Result<(), Fail> {
+    let input = script(alloc, TWO)?;
+    let deaf = Run {
+        writes: &[2],
+        ..plain(&["shell"], &input)
+    };
+    take(alloc, system, &deaf, "error e", Status::OutputFault)
 }
 
 #[test]
 fn lines_that_were_answered_are_kept_where_a_stream_fails(rt: HostRuntime) -> Result<(), Fail> {
-    let alloc = rt.alloc();
-    let input = script(alloc, "mkdir /a\nmkdir /b\n")?;
-    let mut torn = plain(&["shell"], &input);
-    torn.piece = 12;
-    torn.reads = &[2];
-    let system = expect(alloc, new_system(alloc)?, &torn, "ok\n", Status::InputFault)?;
-    let mut deaf = plain(&["shell"], &input);
-    deaf.writes = &[2];
-    let system = expect(alloc, system, &deaf, "error e", Status::OutputFault)?;
-    session(alloc, system, "ls /\n", "list 1\nd a\n", Status::Done)?;
-    Ok(())
+    let mut system = new_system(rt.alloc())?;
+    hears_one_line(rt.alloc(), &mut system)?;
+    tells_a_part(rt.alloc(), &mut system)?;
+    play(rt.alloc(), &mut system, IS_MADE)
+}
+
+/// The first call on the input fails.
+fn calls_nothing(alloc: Global, system: &mut System, words: &[&str]) -> Result<(), Fail> {
+    let case = Run {
+        reads: &[1],
+        ..plain(words, "pw\n")
+    };
+    leaves(alloc, system, &case, Status::InputFault, 0)
 }
 
 #[test]
 fn a_password_that_is_not_read_calls_nothing(rt: HostRuntime) -> Result<(), Fail> {
-    let alloc = rt.alloc();
+    let mut system = new_system(rt.alloc())?;
     let words: [&[&str]; 5] = [
         &["shell"],
         &["info"],
@@ -85,16 +146,8 @@ fn a_password_that_is_not_read_calls_nothing(rt: HostRuntime) -> Result<(), Fail
         &["generate", "1"],
         &["ls", "/"],
     ];
-    let mut system = new_system(alloc)?;
-    let calls = system.vault.trace().len();
     for words in words {
-        let mut case = plain(words, "pw\n");
-        case.reads = &[1];
-        let mut zeros = ZEROS;
-        let (text, status, after) = outcome(alloc, system, &case, &mut zeros)?;
-        assert!(rt; status == Status::InputFault && text.is_empty());
-        assert_eq!(rt; after.vault.trace().len(), calls);
-        system = after;
+        calls_nothing(rt.alloc(), &mut system, words)?;
     }
     Ok(())
 }

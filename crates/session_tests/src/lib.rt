@@ -10,6 +10,10 @@ mod files;
 #[cfg(test)]
 mod honest;
 #[cfg(test)]
+mod keys;
+#[cfg(test)]
+mod left;
+#[cfg(test)]
 mod sessions;
 #[cfg(test)]
 mod setup;

@@ -1,24 +1,19 @@
 // Runs of `create`, `info` and `passwd`.
 
-use crate::files::{BY_HAND, COUNTED, OTHER_CIPHER, OTHER_JSON, SMALL_BLOCKS};
-use config_file::open_config;
+use crate::files::{by_hand, counted, unusable};
+use crate::keys::opened;
+use crate::left::leaves;
 use local_state::key_digest;
 use memory_outside::{MemoryKeeper, MemoryVault};
 use outside::{Change, FileName, Pending};
 use std::alloc::{AllocError, Global};
 use std::test::Fail;
 use test_systems::{
-    CREATED, Run, Status, System, Words, ZEROS, count_blocks, expect, file, new_system, nothing,
-    outcome, plain, session, store,
+    CREATED, Run, Status, System, Words, count_blocks, file, new_system, nothing, outcome, plain,
+    play, store, take,
 };
 
 const CREATE: &[&str] = &["create", "--blocksize", "128", "--scrypt-n", "16"];
-
-const ZEROS_TEXT: &str =
-    "filesystem 00000000000000000000000000000000\nroot 00000000000000000000000000000001\ncipher aes-256-gcm\nblocksize 128\nscrypt 16 8 1\n";
-
-const BY_HAND_TEXT: &str =
-    "filesystem A0A1A2A3A4A5A6A7A8A9AAABACADAEAF\nroot F0F1F2F3F4F5F6F7F8F9FAFBFCFDFEFF\ncipher aes-256-gcm\nblocksize 1048576\nscrypt 32 2 3\n";
 
 /// The bytes of the configuration's file, where it is there.
 fn config_in(vault: &MemoryVault) -> Option<&[u8]> {
@@ -32,45 +27,58 @@ fn config_in(vault: &MemoryVault) -> Option<&[u8]> {
     None
 }
 
+/// How many bytes the configuration has, how many block files there are, and how many bytes are kept.
+fn sizes(system: &System) -> (usize, usize, usize) {
+    (
+        config_in(&system.vault).unwrap_or(&[]).len(),
+        count_blocks(&system.vault),
+        system.keeper.kept().unwrap_or(&[]).len(),
+    )
+}
+
+const IS_TOLD: &str = "> info
+pw
+=
+filesystem 00000000000000000000000000000000
+root 00000000000000000000000000000001
+cipher aes-256-gcm
+blocksize 128
+scrypt 16 8 1
+> info
+px
+= configuration does not open
+";
+
 #[test]
 fn makes_a_file_system_and_tells_of_it(rt: HostRuntime) -> Result<(), Fail> {
     let alloc = rt.alloc();
-    let made = expect(
-        alloc,
-        nothing(alloc),
-        &plain(CREATE, "pw"),
-        CREATED,
-        Status::Done,
-    )?;
-    assert_eq!(rt; config_in(&made.vault).unwrap_or(&[]).len(), 1126);
-    assert_eq!(rt; count_blocks(&made.vault), 1);
-    assert_eq!(rt; made.keeper.kept().unwrap_or(&[]).len(), 146);
-    let told = expect(
-        alloc,
-        made,
-        &plain(&["info"], "pw"),
-        ZEROS_TEXT,
-        Status::Done,
-    )?;
-    let wrong = plain(&["info"], "px");
-    let told = expect(alloc, told, &wrong, "", Status::ConfigLocked)?;
-    let calls = told.vault.trace().len();
-    let again = plain(CREATE, "pw");
-    let there = expect(alloc, told, &again, "", Status::Exists)?;
-    assert_eq!(rt; there.vault.trace().len(), calls);
-    Ok(())
+    let mut system = nothing(alloc);
+    let create = plain(CREATE, "pw");
+    take(alloc, &mut system, &create, CREATED, Status::Done)?;
+    assert!(rt; sizes(&system) == (1126, 1, 146));
+    play(alloc, &mut system, IS_TOLD)?;
+    leaves(alloc, &mut system, &create, Status::Exists, 0)
+}
+
+/// What `create` makes of words that count, where it writes that it made it.
+fn made_by_counting(alloc: Global) -> Result<Option<System>, Fail> {
+    let mut chance = Words { word: 0, step: 1 };
+    let case = plain(CREATE, "pw");
+    let (text, status, after) = outcome(alloc, nothing(alloc), &case, &mut chance)?;
+    if status == Status::Done
+        && text.as_slice() == b"created 00000000010000000200000003000000\n".as_slice()
+    {
+        Ok(Some(after))
+    } else {
+        Ok(None)
+    }
 }
 
 #[test]
 fn draws_in_order(rt: HostRuntime) -> Result<(), Fail> {
-    let alloc = rt.alloc();
-    let mut chance = Words { word: 0, step: 1 };
-    let case = plain(CREATE, "pw");
-    let (text, status, after) = outcome(alloc, nothing(alloc), &case, &mut chance)?;
-    assert!(rt; status == Status::Done);
-    assert!(rt; text == b"created 00000000010000000200000003000000\n".to_vec(alloc)?);
-    let made = hex::decode(alloc, COUNTED)?;
-    assert!(rt; config_in(&after.vault) == Some(made.as_slice()));
+    let made = counted(rt.alloc())?;
+    let system = made_by_counting(rt.alloc())?.ok_or("it is made")?;
+    assert!(rt; config_in(&system.vault) == Some(made.as_slice()));
     Ok(())
 }
 
@@ -86,41 +94,71 @@ fn empty_record(alloc: Global, fs_id: &[u8; 16], key: &[u8; 32]) -> Result<Vec<u
     Ok(record)
 }
 
+/// A keeper with a record of the file system of the file made by hand.
+fn keeper_by_hand(alloc: Global) -> Result<MemoryKeeper, Fail> {
+    let config = opened(alloc, &by_hand(alloc)?)?;
+    let record = empty_record(alloc, &config.fs_id.0, &config.key)?;
+    Ok(MemoryKeeper::new(alloc, Some(record), Vec::new(alloc)))
+}
+
+/// A directory with this configuration alone.
+fn vault_with(alloc: Global, file: &[u8]) -> Result<MemoryVault, Fail> {
+    let mut vault = MemoryVault::new(alloc);
+    let mut files = Vec::new(alloc);
+    files.push(Pending {
+        name: FileName::Config,
+        change: Change::Bytes(file.to_vec(alloc)?),
+    })?;
+    vault.set_files(files);
+    Ok(vault)
+}
+
 /// A directory with this configuration, or none, and a record of the file system of the file made by hand.
 fn system_of(alloc: Global, file: Option<&[u8]>) -> Result<System, Fail> {
-    let by_hand = hex::decode(alloc, BY_HAND)?;
-    let config = open_config(alloc, b"pw", &by_hand)?.config;
-    let record = empty_record(alloc, &config.fs_id.0, &config.key)?;
-    let mut vault = MemoryVault::new(alloc);
-    if let Some(file) = file {
-        let mut files = Vec::new(alloc);
-        files.push(Pending {
-            name: FileName::Config,
-            change: Change::Bytes(file.to_vec(alloc)?),
-        })?;
-        vault.set_files(files);
+    let keeper = keeper_by_hand(alloc)?;
+    let vault = match file {
+        Some(file) => vault_with(alloc, file)?,
+        None => MemoryVault::new(alloc),
+    };
+    Ok(System { vault, keeper })
+}
+
+/// A run over it, which has to write this text and end with this status.
+fn is_told(
+    alloc: Global,
+    file: Option<&[u8]>,
+    case: &Run<'_>,
+    text: &str,
+    status: Status,
+) -> Result<(), Fail> {
+    take(alloc, &mut system_of(alloc, file)?, case, text, status)
+}
+
+const BY_HAND_TEXT: &str =
+    "filesystem A0A1A2A3A4A5A6A7A8A9AAABACADAEAF\nroot F0F1F2F3F4F5F6F7F8F9FAFBFCFDFEFF\ncipher aes-256-gcm\nblocksize 1048576\nscrypt 32 2 3\n";
+
+/// What `info` tells over the file made by hand with each of these inputs.
+fn are_told(
+    alloc: Global,
+    file: &[u8],
+    inputs: &[&str],
+    text: &str,
+    status: Status,
+) -> Result<(), Fail> {
+    for input in inputs {
+        is_told(alloc, Some(file), &plain(&["info"], input), text, status)?;
     }
-    Ok(System {
-        vault,
-        keeper: MemoryKeeper::new(alloc, Some(record), Vec::new(alloc)),
-    })
+    Ok(())
 }
 
 #[test]
 fn tells_what_a_file_says(rt: HostRuntime) -> Result<(), Fail> {
     let alloc = rt.alloc();
-    let file = hex::decode(alloc, BY_HAND)?;
-    for input in ["pw", "pw\n", "pw\nls /\n"] {
-        let system = system_of(alloc, Some(&file))?;
-        let case = plain(&["info"], input);
-        expect(alloc, system, &case, BY_HAND_TEXT, Status::Done)?;
-    }
-    for input in ["", "\n", "pw\r\n", "p"] {
-        let system = system_of(alloc, Some(&file))?;
-        let case = plain(&["info"], input);
-        expect(alloc, system, &case, "", Status::ConfigLocked)?;
-    }
-    Ok(())
+    let file = by_hand(alloc)?;
+    let right = ["pw", "pw\n", "pw\nls /\n"];
+    are_told(alloc, &file, &right, BY_HAND_TEXT, Status::Done)?;
+    let wrong = ["", "\n", "pw\r\n", "p"];
+    are_told(alloc, &file, &wrong, "", Status::ConfigLocked)
 }
 
 /// Each form that opens a file system ends so over this configuration.
@@ -133,115 +171,162 @@ fn is_refused(alloc: Global, file: Option<&[u8]>, status: Status) -> Result<(), 
         &["ls", "/"],
     ];
     for words in forms {
-        let system = system_of(alloc, file)?;
-        expect(alloc, system, &plain(words, "pw"), "", status)?;
+        is_told(alloc, file, &plain(words, "pw"), "", status)?;
     }
     Ok(())
 }
 
-#[test]
-fn refuses_files(rt: HostRuntime) -> Result<(), Fail> {
-    let alloc = rt.alloc();
-    let mut file = hex::decode(alloc, BY_HAND)?;
+/// Files of other lengths, and one that was changed.
+fn are_refused_as_changed(alloc: Global, file: &mut Vec<u8>) -> Result<(), Fail> {
     is_refused(alloc, file.get(..1125), Status::ConfigForm)?;
     is_refused(alloc, Some(b""), Status::ConfigForm)?;
     if let Some(byte) = file.get_mut(1000) {
         *byte ^= 1;
     }
-    is_refused(alloc, Some(&file), Status::ConfigLocked)?;
+    is_refused(alloc, Some(file), Status::ConfigLocked)?;
     file.push(0)?;
-    is_refused(alloc, Some(&file), Status::ConfigForm)?;
-    for held in [OTHER_CIPHER, OTHER_JSON, SMALL_BLOCKS] {
-        let file = hex::decode(alloc, held)?;
-        is_refused(alloc, Some(&file), Status::ConfigInner)?;
+    is_refused(alloc, Some(file), Status::ConfigForm)
+}
+
+/// A file whose contents can't be used.
+fn is_refused_as_unusable(alloc: Global, digits: &str) -> Result<(), Fail> {
+    let file = hex::decode(alloc, digits)?;
+    is_refused(alloc, Some(&file), Status::ConfigInner)
+}
+
+#[test]
+fn refuses_files(rt: HostRuntime) -> Result<(), Fail> {
+    let alloc = rt.alloc();
+    are_refused_as_changed(alloc, &mut by_hand(alloc)?)?;
+    for digits in unusable() {
+        is_refused_as_unusable(alloc, digits)?;
     }
     // A configuration of another file system.
-    let other = hex::decode(alloc, COUNTED)?;
-    is_refused(alloc, Some(&other), Status::Violation)?;
+    is_refused(alloc, Some(&counted(alloc)?), Status::Violation)?;
     is_refused(alloc, None, Status::NoConfig)
+}
+
+const IS_MADE: &str = "> shell
+pw
+mkdir /a
+=
+ok
+";
+
+const IS_REFUSED: &str = "> shell
+pw
+ls /
+= integrity violation
+";
+
+const IS_LISTED: &str = "> shell
+pw
+ls /
+=
+list 1
+d a
+";
+
+/// A session over a configuration of another file system, and one over the own. Their passwords are the same.
+fn goes_on(alloc: Global, system: &mut System) -> Result<(), Fail> {
+    let own = file(alloc, system.vault.files(), FileName::Config)?;
+    store(alloc, system, FileName::Config, Some(counted(alloc)?))?;
+    play(alloc, system, IS_REFUSED)?;
+    store(alloc, system, FileName::Config, Some(own))?;
+    play(alloc, system, IS_LISTED)
 }
 
 #[test]
 fn goes_on_after_a_configuration_of_another_file_system(rt: HostRuntime) -> Result<(), Fail> {
-    let alloc = rt.alloc();
-    let mut system = session(
-        alloc,
-        new_system(alloc)?,
-        "mkdir /a\n",
-        "ok\n",
-        Status::Done,
-    )?;
-    let own = file(alloc, system.vault.files(), FileName::Config)?;
-    // Its password is the same.
-    let other = hex::decode(alloc, COUNTED)?;
-    store(alloc, &mut system, FileName::Config, Some(other))?;
-    let mut after = session(alloc, system, "ls /\n", "", Status::Violation)?;
-    store(alloc, &mut after, FileName::Config, Some(own))?;
-    session(alloc, after, "ls /\n", "list 1\nd a\n", Status::Done)?;
-    Ok(())
+    let mut system = new_system(rt.alloc())?;
+    play(rt.alloc(), &mut system, IS_MADE)?;
+    goes_on(rt.alloc(), &mut system)
 }
 
-/// A run of these words over nothing, which writes nothing, keeps nothing and calls nothing.
-fn stops(alloc: Global, case: &Run<'_>, status: Status) -> Result<bool, Fail> {
-    let mut zeros = ZEROS;
-    let (text, ended, after) = outcome(alloc, nothing(alloc), case, &mut zeros)?;
-    Ok(
-        ended == status
-            && text.is_empty()
-            && after.vault.trace().is_empty()
-            && after.keeper.kept().is_none(),
-    )
+/// A password line of so many letters, read in pieces of which this one fails, over nothing: nothing is written, kept or
+/// called.
+fn is_stopped(alloc: Global, letters: usize, read: u64, status: Status) -> Result<(), Fail> {
+    let input = vec![in alloc; b'a'; letters]?;
+    let reads = [read];
+    let forms: [&[&str]; 3] = [CREATE, &["info"], &["passwd"]];
+    for words in forms {
+        let case = Run {
+            input: &input,
+            piece: 65_536,
+            reads: &reads,
+            ..plain(words, "")
+        };
+        leaves(alloc, &mut nothing(alloc), &case, status, 0)?;
+    }
+    Ok(())
 }
 
 #[test]
 fn limits_password_lines(rt: HostRuntime) -> Result<(), Fail> {
-    let alloc = rt.alloc();
     // 16 reads give 1,048,576 letters.
-    let rows = [
+    for (letters, read, status) in [
         (1_048_577, 99, Status::LongPassword),
         (1_048_577, 18, Status::LongPassword),
         (1_048_577, 17, Status::InputFault),
         (1_048_576, 17, Status::InputFault),
         (2, 1, Status::InputFault),
-    ];
-    for (letters, read, status) in rows {
-        let input = vec![in alloc; b'a'; letters]?;
-        let reads = [read];
-        for words in [CREATE, &["info"], &["passwd"]] {
-            let mut case = plain(words, "");
-            case.input = &input;
-            case.piece = 65_536;
-            case.reads = &reads;
-            assert!(rt; stops(alloc, &case, status)?);
-        }
+    ] {
+        is_stopped(rt.alloc(), letters, read, status)?;
     }
     Ok(())
+}
+
+/// The call of this number on the directory fails.
+fn names_the_directory(
+    alloc: Global,
+    system: &mut System,
+    call: u64,
+    words: &[&str],
+) -> Result<(), Fail> {
+    system.vault.fail_calls([call].to_vec(alloc)?);
+    let case = plain(words, "pw");
+    take(alloc, system, &case, "", Status::DirectoryFault)
+}
+
+/// The save of this number fails.
+fn names_the_record(alloc: Global, save: u64) -> Result<(), Fail> {
+    let mut system = nothing(alloc);
+    let fails = [(save, false)].to_vec(alloc)?;
+    system.keeper = MemoryKeeper::new(alloc, None, fails);
+    let case = plain(CREATE, "pw");
+    take(alloc, &mut system, &case, "", Status::StateFault)
+}
+
+/// The call of this number on the output fails, before which this was written.
+fn names_the_output(
+    alloc: Global,
+    system: &mut System,
+    words: &[&str],
+    writes: &[u64],
+    text: &str,
+) -> Result<(), Fail> {
+    let case = Run {
+        writes,
+        ..plain(words, "pw")
+    };
+    take(alloc, system, &case, text, Status::OutputFault)
+}
+
+/// What `info` ends with where its output fails, and then the directory.
+fn names_what_failed_in_info(alloc: Global) -> Result<(), Fail> {
+    let mut system = new_system(alloc)?;
+    names_the_output(alloc, &mut system, &["info"], &[1], "")?;
+    names_the_directory(alloc, &mut system, 1, &["info"])
 }
 
 #[test]
 fn names_what_failed(rt: HostRuntime) -> Result<(), Fail> {
     let alloc = rt.alloc();
-    let mut made = plain(CREATE, "pw");
-    made.writes = &[2];
-    expect(alloc, nothing(alloc), &made, "created", Status::OutputFault)?;
+    names_the_output(alloc, &mut nothing(alloc), CREATE, &[2], "created")?;
     for call in [1, 2, 3] {
-        let mut system = nothing(alloc);
-        system.vault.fail_calls([call].to_vec(alloc)?);
-        let case = plain(CREATE, "pw");
-        expect(alloc, system, &case, "", Status::DirectoryFault)?;
+        names_the_directory(alloc, &mut nothing(alloc), call, CREATE)?;
     }
-    for save in [1, 2] {
-        let mut system = nothing(alloc);
-        let fails = [(save, false)].to_vec(alloc)?;
-        system.keeper = MemoryKeeper::new(alloc, None, fails);
-        expect(alloc, system, &plain(CREATE, "pw"), "", Status::StateFault)?;
-    }
-    let mut told = plain(&["info"], "pw");
-    told.writes = &[1];
-    let system = expect(alloc, new_system(alloc)?, &told, "", Status::OutputFault)?;
-    let mut asked = system;
-    asked.vault.fail_calls([1].to_vec(alloc)?);
-    let case = plain(&["info"], "pw");
-    expect(alloc, asked, &case, "", Status::DirectoryFault)?;
-    Ok(())
+    names_the_record(alloc, 1)?;
+    names_the_record(alloc, 2)?;
+    names_what_failed_in_info(alloc)
 }

@@ -1,22 +1,16 @@
 // A block whose version can't rise.
 
-use aes_gcm::Aes256Gcm;
-use config_file::open_config;
+use crate::keys::{key_of, root_of, root_record, sealed_root};
 use memory_outside::MemoryKeeper;
-use outside::FileName;
-use seal_api::Sealer;
 use std::alloc::Global;
 use std::test::Fail;
-use test_systems::{Status, System, block, file, new_system, session, store};
+use test_systems::{System, block, new_system, play, store};
 
 /// The place of the version in a block's record.
 const IN_BLOCK: usize = 22;
 
 /// The place of the version of the only block that a local record knows.
 const IN_STATE: usize = 129;
-
-/// The id of the root's block.
-const ROOT: [u8; 16] = [0, 0, 0, 0, 0, 0, 0, 0, 0, 0, 0, 0, 0, 0, 0, 1];
 
 /// Makes the version at this place the last one, 18446744073709551615.
 fn set_last_version(bytes: &mut Vec<u8>, place: usize) {
@@ -25,36 +19,38 @@ fn set_last_version(bytes: &mut Vec<u8>, place: usize) {
     }
 }
 
-/// A new file system whose root has the last version, in its block and in the local record.
-fn system_with_a_spent_root(alloc: Global) -> Result<System, Fail> {
-    let mut system = new_system(alloc)?;
-    let config = file(alloc, system.vault.files(), FileName::Config)?;
-    let key = open_config(alloc, b"pw", &config)?.config.key;
-    let found = file(alloc, system.vault.files(), block(1))?;
-    let Some((prefix, sealed)) = found.split_at_checked(16) else {
-        return Err(Fail::new("a block's file has a prefix"));
-    };
-    let Some(mut record) = Aes256Gcm.unseal_with(alloc, &key, &ROOT, sealed)? else {
-        return Err(Fail::new("the root's file opens"));
-    };
+/// The root's file with the last version.
+fn spent_root(alloc: Global, system: &System) -> Result<Vec<u8>, Fail> {
+    let key = key_of(alloc, system)?;
+    let mut record = root_record(alloc, &key, &root_of(alloc, system)?)?;
     set_last_version(&mut record, IN_BLOCK);
-    if record.len() != 16384 - 48 {
-        return Err(Fail::new("a record has 48 bytes less than its file"));
-    }
-    let mut crafted = prefix.to_vec(alloc)?;
-    Aes256Gcm.seal_with(&key, &[9; 16], &ROOT, &record, &mut crafted)?;
-    store(alloc, &mut system, block(1), Some(crafted))?;
+    sealed_root(alloc, &key, &record)
+}
+
+/// Gives the root the last version, in its block and in the local record.
+fn spend_root(alloc: Global, system: &mut System) -> Result<(), Fail> {
+    let root = spent_root(alloc, system)?;
+    store(alloc, system, block(1), Some(root))?;
     let mut state = system.keeper.kept().unwrap_or(&[]).to_vec(alloc)?;
     set_last_version(&mut state, IN_STATE);
     system.keeper = MemoryKeeper::new(alloc, Some(state), Vec::new(alloc));
-    Ok(system)
+    Ok(())
 }
 
 #[test]
 fn a_root_of_the_last_version_is_spent(rt: HostRuntime) -> Result<(), Fail> {
-    let alloc = rt.alloc();
-    let system = system_with_a_spent_root(alloc)?;
-    let lines = "mkdir /a\nls /\n";
-    session(alloc, system, lines, "spent\nlist 0\n", Status::Done)?;
-    Ok(())
+    let mut system = new_system(rt.alloc())?;
+    spend_root(rt.alloc(), &mut system)?;
+    play(
+        rt.alloc(),
+        &mut system,
+        "> shell
+pw
+mkdir /a
+ls /
+=
+spent
+list 0
+",
+    )
 }

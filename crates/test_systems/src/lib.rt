@@ -3,10 +3,12 @@
 #![tactic(auto)]
 
 mod random;
+mod rows;
 mod stored;
 mod system;
 
 pub use random::{Words, ZEROS};
+pub use rows::{ask, play, play_anew, play_beside, take};
 pub use run_status::Status;
 pub use stored::{block, copy_files, count_blocks, file, first_made, store};
 pub use system::{
