@@ -93,8 +93,8 @@ def print_text(name, meaning, value):
 
 
 def print_files(name, meaning, files):
-    rows = "".join(f'    (\n        "{it}",\n        "{text.hex()}",\n    ),\n' for it, text in sorted(files.items()))
-    print(f"\n/// {meaning}\npub const {name}: &[(&str, &str)] = &[\n{rows}];")
+    lines = "\n".join(f"{it} {text.hex()}" for it, text in sorted(files.items()))
+    print(f'\n/// {meaning}\npub const {name}: &str =\n    "{lines}";')
 
 
 def main(program, folder):
@@ -111,7 +111,7 @@ def main(program, folder):
     print_text("CONFIG", "The configuration's file.", read(f"{folder}/blocks/cryfs.config"))
     print_text("RECORD", "The local record after the second session.", record)
     print_text("WAITING", "That of the third session, whose list has what couldn't be put.", waiting)
-    print_files("BLOCKS", "The block files after the second session, by their ids.", second)
+    print_files("BLOCKS", "The block files after the second session: in each line an id, a blank and the file.", second)
     older = {it: first[it] for it in second if it in first}
     print_files("OLDER", "Those of the same ids as they were after the first session.", older)
 

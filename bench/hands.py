@@ -25,7 +25,8 @@ REAL = hands_real.CASES + hands_copies.CASES + hands_files.REAL + hands_checks.C
 
 
 def passes(case):
-    with tempfile.TemporaryDirectory() as folder:
+    # What a run that was killed still writes may keep a folder from going.
+    with tempfile.TemporaryDirectory(ignore_cleanup_errors=True) as folder:
         tree = Tree(os.path.join(os.path.realpath(folder), "tree"))
         try:
             case(tree)

@@ -33,8 +33,8 @@ def lay_out(folders):
     with open(STORED, encoding="utf-8") as file:
         text = file.read()
     files = {f"{folders.blocks}/cryfs.config": stored("CONFIG", text), f"{folders.state}/cryfs.localstate": stored("RECORD", text)}
-    listed = re.search(r"pub const BLOCKS: [^=]*= &\[(.*?)\n\];", text, re.S)[1]
-    for name, digits in re.findall(r'"([0-9A-F]{32})",\s*"([0-9a-f]*)"', listed):
+    listed = re.search(r'pub const BLOCKS: &str =\s*"([^"]*)"', text)[1]
+    for name, digits in map(str.split, listed.splitlines()):
         files[f"{folders.blocks}/{name[:3]}/{name[3:]}"] = bytes.fromhex(digits)
     for path, contents in files.items():
         os.makedirs(os.path.dirname(path), exist_ok=True)

@@ -1,7 +1,7 @@
 #!/usr/bin/env python3
 """Runs the gate and prints what each crate cost, in seconds of processor, as a table.
 
-    tools/costs.py rt ci --anew
+    tools/costs.py rt ci
 
 The log of `rt` has no times. So the provers that the command starts are looked at every half second, and each one's last
 figures count: some tenths of a second are missing for each. Crates that are kept from an earlier run cost nothing."""
