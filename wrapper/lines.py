@@ -207,10 +207,10 @@ def run_behind(program, call, first):
     lives, held = running.pipe()
     os.set_inheritable(held, True)
     errors = running.in_memory()
-    # (were this process stopped, the pipe's end would look like the input's)
     process = running.start(program, call.words(), {0: given, 2: errors} if os.isatty(2) else {0: given}, ends_with_this=True)
     os.close(given)
     os.close(held)
+    ended = running.hold_open(process, lives)
     for it in (signal.SIGTERM, signal.SIGHUP):
         signal.signal(it, lambda number, _: os.kill(process, number))
     signal.signal(signal.SIGINT, signal.SIG_IGN)
@@ -220,6 +220,7 @@ def run_behind(program, call, first):
         os.kill(process, signal.SIGKILL)
         os.write(errors, b"cryfs: input fault\n")
     os.close(into)
+    os.write(ended, b".")
     status = running.wait(process)
     running.end(status if is_whole or not call.takes_bytes() else INPUT_FAULT, errors, call)
 

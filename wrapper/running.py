@@ -1,5 +1,6 @@
 """The program as it is run: in this process's place, or below it with its status explained."""
 import os
+import select
 import signal
 import sys
 import tty
@@ -81,6 +82,27 @@ def end_with(parent):
     # (it may have ended before)
     if os.getppid() != parent:
         os._exit(telling.NOT_RUN)
+
+
+def hold_open(process, lives):
+    """Begins a process that has all of this one's pipes open until a byte comes on the file that is given back, or the
+    program has ended. So where this process is stopped, its pipes' end isn't taken for the input's: the program is stopped."""
+    said, ended = pipe()
+    if os.fork():
+        os.close(said)
+        return ended
+    try:
+        os.close(ended)
+        for it in (signal.SIGINT, signal.SIGQUIT, signal.SIGTERM, signal.SIGHUP):
+            signal.signal(it, signal.SIG_IGN)
+        nowhere = os.open(os.devnull, os.O_RDWR)
+        for it in (0, 1, 2):
+            os.dup2(nowhere, it)
+        if lives not in select.select([said, lives], [], [])[0] and not os.read(said, 1):
+            os.kill(process, signal.SIGKILL)
+            os.read(lives, 1)
+    finally:
+        os._exit(0)
 
 
 def wait(process):
