@@ -5,6 +5,7 @@
 
 What a crate does is the first paragraph of its root file. It stands on the crates that crates.txt names, less those that
 another of them stands on; crates of the kit are in brackets. Its definitions are the files of its folder specs."""
+import functools
 import os
 import re
 import sys
@@ -18,21 +19,23 @@ def read(path):
         return file.read()
 
 
+@functools.cache
 def read_lines():
     """The libraries of each crate, in the order of crates.txt."""
     lines = [line.partition("#")[0].partition(":") for line in read("crates.txt").splitlines()]
     return {name.split()[0]: libraries.split() for name, mark, libraries in lines if mark}
 
 
-def all_below(name, lines):
+@functools.cache
+def all_below(name):
     """The crates that one stands on, those of the kit too."""
-    below = set(lines.get(name, ()))
-    return below.union(*(all_below(it, lines) for it in below))
+    below = set(read_lines().get(name, ()))
+    return below.union(*map(all_below, below))
 
 
 def stands_on(name, lines):
     """The libraries of a crate that no other of them stands on."""
-    implied = set().union(*(all_below(it, lines) for it in lines[name]))
+    implied = set().union(*map(all_below, lines[name]))
     return [it if it in lines else f"[{it}]" for it in lines[name] if it not in implied]
 
 
