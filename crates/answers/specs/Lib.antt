@@ -4,3 +4,5 @@ pub mod Sessions
 pub mod Hosts
 pub mod Summaries
 pub mod Telling
+-- Handed on to crates above, which name their words so and needn't list them.
+pub use Rattle.script_text.specs as script_text

@@ -14,3 +14,6 @@ pub use law::{refuses_after_violation, texts_have_one_reading};
 pub use print::print_answer;
 pub use summary::Summary;
 pub use text_buffer::{SHORT_TEXT, TextBuffer};
+
+// Handed on to crates above, which needn't list them.
+pub use script_text;

@@ -12,12 +12,12 @@ use Rattle.outside.specs.Trace.{At, config, block, Call}
 use Rattle.outside.specs.Names.{at_cmp}
 use Rattle.outside.specs.Changes.{change_at, set_changes}
 use Rattle.outside.specs.ChangeLaws.{change_at-set_changes}
-use Rattle.local_state.specs.declared.life.Life.{Life}
-use Rattle.local_state.specs.Known.{Lives, FitsLife, is_live_in, version_if_live, is_last}
-use Rattle.store_api.specs.Content.{Id, id_cmp, same_id, Changes}
-use Rattle.store_api.specs.Holdings.{FitsStore}
-use Rattle.store_api.proofs.Rising.{ids_total}
-use Rattle.block_records.specs.BlockRecords.{payload_in}
+use Rattle.held_blocks.specs.local_state.declared.life.Life.{Life}
+use Rattle.held_blocks.specs.local_state.Known.{Lives, FitsLife, is_live_in, version_if_live, is_last}
+use Rattle.held_blocks.specs.store_api.Content.{Id, id_cmp, same_id, Changes}
+use Rattle.held_blocks.specs.store_api.Holdings.{FitsStore}
+use Rattle.held_blocks.proofs.store_api_lemmas.Rising.{ids_total}
+use Rattle.held_blocks.specs.block_records.BlockRecords.{payload_in}
 use Rattle.batch_sealing.specs.Applied.{life_after, WaitsAfter, Applied}
 use Rattle.batch_sealing.specs.Draws.{AreDrawn, given_in, iv_of, draws}
 use Rattle.held_blocks.specs.Held.{Held, where_live, waiting, wanted, file_of, told_or_none}

@@ -6,13 +6,13 @@ use Rattle.std.specs.FinMap as fin
 use Rattle.std.specs.Option.{option_map_or}
 use Rattle.outside.specs.Trace.{Call, block}
 use Rattle.outside.specs.Honest.{LastChange, last_change}
-use Rattle.local_state.specs.declared.life.Life.{Life}
-use Rattle.local_state.specs.Known.{raised_version, is_dead_in, version_if_live, is_last}
+use Rattle.held_blocks.specs.local_state.declared.life.Life.{Life}
+use Rattle.held_blocks.specs.local_state.Known.{raised_version, is_dead_in, version_if_live, is_last}
 use Rattle.block_id.specs.declared.format.Format.TheVariants.{WithId}
 use Rattle.block_id.specs.Formats.{IsTaken, format_in}
-use Rattle.store_api.specs.Content.{Id, Changes, or_else, over}
-use Rattle.store_api.specs.Holdings.{Changed, gives_payload, has_id}
-use Rattle.block_records.specs.BlockRecords.{Record, opened, payload_of, payload_in}
+use Rattle.held_blocks.specs.store_api.Content.{Id, Changes, or_else, over}
+use Rattle.held_blocks.specs.store_api.Holdings.{Changed, gives_payload, has_id}
+use Rattle.held_blocks.specs.block_records.BlockRecords.{Record, opened, payload_of, payload_in}
 use Rattle.batch_sealing.specs.Applied.{life_after, WaitsAfter, Applied}
 use Rattle.held_blocks.specs.Held.{Held, own, waiting, waiting_or, bytes_in, file_of, live_version, where_live, told_or_none, wanted}
 use Rattle.held_blocks.specs.Soundness.{IsForeign, IsFresh, IsPast, IsSealed, SoundAt, SoundBy}

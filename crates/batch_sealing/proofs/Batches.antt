@@ -8,9 +8,9 @@ use Rattle.rand_core.specs.Stream.{Stream}
 use Rattle.outside.specs.Trace.{Call}
 use Rattle.outside.specs.Names.{at_cmp}
 use Rattle.outside.specs.Changes.{IsIncreasing}
-use Rattle.local_state.specs.Known.{Lives, FitLives}
-use Rattle.store_api.specs.Content.{Id, id_cmp, Changes}
-use Rattle.store_api.specs.Holdings.{FitsStore, Changed, IsSpent}
+use Rattle.held_blocks.specs.local_state.Known.{Lives, FitLives}
+use Rattle.held_blocks.specs.store_api.Content.{Id, id_cmp, Changes}
+use Rattle.held_blocks.specs.store_api.Holdings.{FitsStore, Changed, IsSpent}
 use Rattle.batch_sealing.specs.Applied.{Applied}
 use Rattle.batch_sealing.specs.Draws.{AreDrawn}
 use Rattle.held_blocks.specs.Held.{Held}

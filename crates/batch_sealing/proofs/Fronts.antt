@@ -2,9 +2,9 @@
 use Rattle.std.proofs.Common.{◌≡◌, ℕ, ◌+◌, ◌-◌, ◌≤◌, List, ◌++◌, length, refl, ◌∙◌, ap, append_assoc, arith, length-append}
 use Rattle.std.specs.Prelude.{Some, replicate}
 use Rattle.std.specs.Int.{w16, w32, w64, to_le_bytes}
-use Rattle.block_records.specs.BlockRecords.{Record, FitsFile, record_of, text_of}
-use Rattle.block_records.proofs.Records.{length-text, record_again}
-use Rattle.sealed_store.specs.Drafts.{filled}
+use Rattle.held_blocks.specs.block_records.BlockRecords.{Record, FitsFile, record_of, text_of}
+use Rattle.held_blocks.proofs.block_records_lemmas.Records.{length-text, record_again}
+use Rattle.held_blocks.specs.sealed_store.Drafts.{filled}
 
 -- what follows a record's text follows its payload
 text_then : (r : Record) (more : List ℕ) → text_of r ++ more ≡ text_of (record r { payload = r.payload ++ more })

@@ -6,10 +6,10 @@ use Rattle.std.specs.FinMap.{is_sorted, get-insert}
 use Rattle.std.specs.FinMap.Entries.{find}
 use Rattle.std.specs.Cmp.{Equal-is}
 use Rattle.std.proofs.lemmas.Bool.{or_cases, or_right}
-use Rattle.local_state.specs.declared.life.Life.{Life}
-use Rattle.local_state.specs.Known.{Lives, is_last}
-use Rattle.store_api.specs.Content.{Id, id_cmp, same_id}
-use Rattle.store_api.proofs.Rising.{ids_total, same_id_is, not_below}
+use Rattle.held_blocks.specs.local_state.declared.life.Life.{Life}
+use Rattle.held_blocks.specs.local_state.Known.{Lives, is_last}
+use Rattle.held_blocks.specs.store_api.Content.{Id, id_cmp, same_id}
+use Rattle.held_blocks.proofs.store_api_lemmas.Rising.{ids_total, same_id_is, not_below}
 use Rattle.batch_sealing.specs.Applied.{life_after}
 use Rattle.batch_sealing.specs.Raising.{BatchEntry, is_spent_at, some_spent_in, one_if_new, count_new_in, MayCome, with_life_at, lives_after_one, lives_after_each, MayComeEach, count_new_each}
 use Rattle.batch_sealing.proofs.Sorted.{found_first, later_differs, found_later, rest_rises, first_below}

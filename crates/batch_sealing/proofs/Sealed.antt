@@ -12,8 +12,8 @@ use Rattle.outside.specs.Changes.{FileChanges}
 use Rattle.outside.specs.View.{pending_of, list_of}
 use Rattle.block_batch.specs.declared.batch.BatchChange.{BatchChange}
 use Rattle.block_batch.specs.Entries.{entry_view, entries_of}
-use Rattle.sealed_store.specs.Drafts.{MayBeDraft, AreDrafts}
-use Rattle.store_api.proofs.Rising.{turn}
+use Rattle.held_blocks.specs.sealed_store.Drafts.{MayBeDraft, AreDrafts}
+use Rattle.held_blocks.proofs.store_api_lemmas.Rising.{turn}
 use Rattle.held_blocks.specs.Held.{Held}
 use Rattle.batch_sealing.specs.Sealing.{MaySeal, IsMadeOf, stream_after, AreMadeOf}
 

@@ -8,7 +8,7 @@ use Rattle.std.specs.Cmp.{IsTotalOrder, tied_itself, Equal-is}
 use Rattle.std.specs.Ordering.{is_eq, eq_by_cmp}
 use Rattle.std.specs.declared.cmp.Ordering.{Ordering}
 use Rattle.block_id.proofs.Conditions.{left, right}
-use Rattle.store_api.proofs.Rising.{not_below}
+use Rattle.held_blocks.proofs.store_api_lemmas.Rising.{not_below}
 
 pub all_by : {X : Type 0} (P Q : X → Type 0) (xs : List X) → ((x : X) → P x → Q x) → AllByRecursion P xs → AllByRecursion Q xs
 all_by P Q [] into all = tt

@@ -13,8 +13,8 @@ use Rattle.outside.specs.Names.{at_cmp}
 use Rattle.outside.specs.NameLaws.{at_total}
 use Rattle.outside.specs.Changes.{FileChanges, change_at, set_changes}
 use Rattle.outside.specs.ChangeLaws.{change_at-set_changes}
-use Rattle.store_api.specs.Content.{Id, id_cmp, same_id}
-use Rattle.store_api.proofs.Rising.{ids_total, same_id_is}
+use Rattle.held_blocks.specs.store_api.Content.{Id, id_cmp, same_id}
+use Rattle.held_blocks.proofs.store_api_lemmas.Rising.{ids_total, same_id_is}
 use Rattle.batch_sealing.specs.Applied.{IsRaised}
 use Rattle.batch_sealing.specs.Draws.{draws, given_in, iv_in, iv_of}
 use Rattle.held_blocks.specs.Held.{Held}

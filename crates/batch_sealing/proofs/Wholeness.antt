@@ -11,14 +11,14 @@ use Rattle.outside.specs.Trace.{At, config, block, Call}
 use Rattle.outside.specs.Names.{at_cmp}
 use Rattle.outside.specs.NameLaws.{at_total, at_exact}
 use Rattle.outside.specs.Changes.{change_at}
-use Rattle.local_state.specs.declared.life.Life.{Life}
-use Rattle.local_state.specs.Known.{Lives, FitsLife, FitLives}
-use Rattle.local_state.specs.Record.{FitsEntry, FitsHead, IsLeast, Rise, comes_after, may_change, has_bytes}
-use Rattle.store_api.specs.Content.{Id, Changes}
+use Rattle.held_blocks.specs.local_state.declared.life.Life.{Life}
+use Rattle.held_blocks.specs.local_state.Known.{Lives, FitsLife, FitLives}
+use Rattle.held_blocks.specs.local_state.Record.{FitsEntry, FitsHead, IsLeast, Rise, comes_after, may_change, has_bytes}
+use Rattle.held_blocks.specs.store_api.Content.{Id, Changes}
 use Rattle.block_id.proofs.Conditions.{left, right}
-use Rattle.sealed_store.specs.BlockFiles.{OpensAlike}
-use Rattle.block_records.specs.BlockRecords.{Record, opened}
-use Rattle.block_records.specs.RecordLaws.{opens-length, opened-plain}
+use Rattle.held_blocks.specs.sealed_store.BlockFiles.{OpensAlike}
+use Rattle.held_blocks.specs.block_records.BlockRecords.{Record, opened}
+use Rattle.held_blocks.specs.block_records.RecordLaws.{opens-length, opened-plain}
 use Rattle.batch_sealing.specs.Applied.{life_after, WaitsAfter, Applied}
 use Rattle.held_blocks.specs.Held.{Held, waiting}
 use Rattle.batch_sealing.specs.Raising.{MayCome}

@@ -6,12 +6,12 @@ use Rattle.std.specs.declared.option.Option.{Option}
 use Rattle.std.specs.declared.option.Option.TheVariants.{None, Some}
 use Rattle.outside.specs.Trace.{Call, config}
 use Rattle.outside.specs.Changes.{change_at}
-use Rattle.local_state.specs.declared.life.Life.{Life}
-use Rattle.local_state.specs.Known.{raised_version}
-use Rattle.store_api.specs.Content.{Changes}
+use Rattle.held_blocks.specs.local_state.declared.life.Life.{Life}
+use Rattle.held_blocks.specs.local_state.Known.{raised_version}
+use Rattle.held_blocks.specs.store_api.Content.{Changes}
 use Rattle.block_id.specs.declared.format.Format.TheVariants.{WithId}
 use Rattle.block_id.specs.Formats.{format_in}
-use Rattle.block_records.specs.BlockRecords.{opened}
+use Rattle.held_blocks.specs.block_records.BlockRecords.{opened}
 use Rattle.held_blocks.specs.Held.{Held, waiting, own}
 
 -- the life of an id after a batch that says nothing of it, gives it a payload, or removes it

@@ -6,7 +6,7 @@ use Rattle.std.specs.declared.option.Option.TheVariants.{None, Some}
 use Rattle.rand_core.specs.Stream.{Stream, fill_bytes}
 use Rattle.outside.specs.Trace.{At, block}
 use Rattle.outside.specs.Changes.{change_at}
-use Rattle.store_api.specs.Content.{Id, Changes}
+use Rattle.held_blocks.specs.store_api.Content.{Id, Changes}
 
 -- so many fills of 16 bytes, and what is left of the stream
 abbrev pub draws : ℕ → Stream → List (List ℕ) × Stream

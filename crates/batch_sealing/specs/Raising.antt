@@ -4,9 +4,9 @@ use Rattle.std.specs.FinMap as fin
 use Rattle.std.specs.Option.{option_map_or}
 use Rattle.std.specs.declared.option.Option.{Option}
 use Rattle.std.specs.declared.option.Option.TheVariants.{None, Some}
-use Rattle.local_state.specs.declared.life.Life.{Life}
-use Rattle.local_state.specs.Known.{Lives, zero_id, is_last}
-use Rattle.store_api.specs.Content.{Id}
+use Rattle.held_blocks.specs.local_state.declared.life.Life.{Life}
+use Rattle.held_blocks.specs.local_state.Known.{Lives, zero_id, is_last}
+use Rattle.held_blocks.specs.store_api.Content.{Id}
 use Rattle.batch_sealing.specs.Applied.{life_after}
 
 abbrev pub BatchEntry : Type 0

@@ -6,9 +6,9 @@ use Rattle.std.specs.declared.option.Option.TheVariants.{None, Some}
 use Rattle.rand_core.specs.Stream.{Stream, fill_bytes}
 use Rattle.outside.specs.Trace.{At, block}
 use Rattle.outside.specs.Changes.{set_changes}
-use Rattle.local_state.specs.declared.life.Life.{Life}
-use Rattle.store_api.specs.Content.{Id}
-use Rattle.local_state.specs.Known.{is_last}
+use Rattle.held_blocks.specs.local_state.declared.life.Life.{Life}
+use Rattle.held_blocks.specs.store_api.Content.{Id}
+use Rattle.held_blocks.specs.local_state.Known.{is_last}
 use Rattle.batch_sealing.specs.Applied.{IsRaised}
 use Rattle.batch_sealing.specs.Draws.{iv_in}
 use Rattle.held_blocks.specs.Held.{Held}

@@ -8,3 +8,6 @@ mod zeros;
 
 pub use raising::{count_new, raise_or_bury_all, some_spent};
 pub use sealing::draft_all;
+
+// Handed on to crates above, which needn't list them.
+pub use held_blocks::{block_records, redo_vault, sealed_store, store_api};

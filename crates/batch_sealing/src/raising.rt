@@ -5,8 +5,8 @@ ghost use Rattle.block_batch.specs.Entries.{entry_view, entries_of, change_view}
 ghost use Rattle.batch_sealing.specs.Raising.{is_spent_at, some_spent_in, one_if_new, count_new_in, MayCome, lives_after_one, lives_after_each, MayComeEach, count_new_each};
 
 use block_id::BlockId;
-use local_state::Known;
-use store_api::BatchChange;
+use held_blocks::local_state::Known;
+use held_blocks::store_api::BatchChange;
 
 /// Whether the change gives a payload to an id whose version can't rise.
 fn is_spent(known: &Known, id: &BlockId, change: &BatchChange) -> bool

@@ -5,22 +5,22 @@ ghost use Rattle.std.specs.FinMap as fin;
 ghost use Rattle.std.specs.List.{AllByRecursion};
 ghost use Rattle.outside.specs.View.{change_of, list_of};
 ghost use Rattle.outside.specs.Trace.{block};
-ghost use Rattle.sealed_store.specs.Drafts.{sealed_as, sealed_change, sealed_entry, MayBeDraft, AreDrafts};
-ghost use Rattle.sealed_store.specs.Stores.{IsIntact, block_size_of, key_of, cipher_of};
-ghost use Rattle.store_api.specs.Draws.{IsLater};
+ghost use Rattle.held_blocks.specs.sealed_store.Drafts.{sealed_as, sealed_change, sealed_entry, MayBeDraft, AreDrafts};
+ghost use Rattle.held_blocks.specs.sealed_store.Stores.{IsIntact, block_size_of, key_of, cipher_of};
+ghost use Rattle.held_blocks.specs.store_api.Draws.{IsLater};
 ghost use Rattle.block_batch.specs.Entries.{entry_view, entries_of};
 ghost use Rattle.batch_sealing.specs.Sealing.{MaySealAt, MaySeal, IsFileFor, IsMadeOf, stream_after, AreMadeOf};
 ghost use Rattle.held_blocks.specs.Views.{held_of};
 
 use crate::zeros::write_front;
 use block_id::{BlockId, Memory};
-use local_state::State;
+use held_blocks::local_state::State;
+use held_blocks::sealed_store::SealedStore;
+use held_blocks::store_api::BatchChange;
 use outside::{Change, FileName, Pending, Vault};
 use rand_core::Rng;
 use seal_api::Sealer;
-use sealed_store::SealedStore;
 use std::alloc::Global;
-use store_api::BatchChange;
 
 /// The draft of the file of a payload's record. It takes no memory for the zeros that the payload ends with.
 fn draft<V: Vault, C: Sealer, R: Rng>(

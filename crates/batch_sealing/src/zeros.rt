@@ -1,12 +1,12 @@
 // Records of payloads without the zeros that they end with.
 ghost use Rattle.std.specs.Prelude.{◌≡◌, ◌≤◌, ◌<◌, ◌+◌, true, length, replicate, IfOk};
 ghost use Rattle.std.specs.declared.option.Option.TheVariants.{Some};
-ghost use Rattle.sealed_store.specs.Drafts.{filled};
-ghost use Rattle.block_records.specs.declared.block_record.TheConstants.{HEAD_LEN, OVERHEAD};
-ghost use Rattle.block_records.specs.BlockRecords.{record_of};
+ghost use Rattle.held_blocks.specs.sealed_store.Drafts.{filled};
+ghost use Rattle.held_blocks.specs.block_records.declared.block_record.TheConstants.{HEAD_LEN, OVERHEAD};
+ghost use Rattle.held_blocks.specs.block_records.BlockRecords.{record_of};
 
 use block_id::{BlockId, Memory};
-use block_records::write_record;
+use held_blocks::block_records::write_record;
 use std::alloc::Global;
 
 /// So many first bytes of a payload are kept where all behind them are zeros.

@@ -4,16 +4,16 @@
 #![tactic(auto)]
 
 ghost use Rattle.std.specs.Prelude.{◌<◌, ◌≤◌, ◌^◌};
-ghost use Rattle.store_api.specs.Txs.{intact_in};
+ghost use Rattle.map_store.specs.store_api.Txs.{intact_in};
 
 use block_id::{BlockId, Fail};
 use map_store::MapStore;
+use map_store::store_api::{Blocks, BlocksMut, Tx};
 use rand_core::Rng;
 use rand_pcg::Pcg32;
 use std::alloc::Global;
 use std::{env, io};
-use store_api::{Blocks, BlocksMut, Tx};
-use tree_calls::{new_tree, read_range};
+use tree_ranges::tree_calls::{new_tree, read_range};
 use tree_ranges::{resize, write_range};
 
 /// The bytes of a payload, as in a block file of 16,384.

@@ -5,13 +5,13 @@ use Rattle.std.specs.FinMap.{insert, remove, len}
 use Rattle.block_id.specs.declared.fail.Fail.{Fail}
 use Rattle.block_id.specs.declared.id.BlockId.{BlockId}
 use Rattle.block_id.specs.Contents.{pieces}
-use Rattle.outcome.specs.Meanings.{Meanings}
-use Rattle.outcome.specs.Lift.{lifted}
-use Rattle.outcome.specs.Outcome.{Outcome, first_}
+use Rattle.blob_api.specs.outcome.Meanings.{Meanings}
+use Rattle.blob_api.specs.outcome.Lift.{lifted}
+use Rattle.blob_api.specs.outcome.Outcome.{Outcome, first_}
 use Rattle.store_api.specs.declared.tx.Tx.{Tx}
 use Rattle.store_api.specs.Content.{Id}
 use Rattle.store_api.specs.Holdings.{Holdings, Stays}
-use Rattle.data_nodes.specs.Layout.{room}
+use Rattle.data_tree.specs.data_nodes.Layout.{room}
 use Rattle.data_tree.specs.Trees.{Replaces}
 use Rattle.data_tree.specs.Needs.{KeepsShape}
 use Rattle.data_tree.specs.Roots.{IsRoot, IsNewRoot}

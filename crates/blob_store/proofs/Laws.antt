@@ -2,7 +2,7 @@
 use Rattle.std.proofs.Common.{◌≡◌, ℕ, ◌≤◌, Bool, true, false, List, [], ◌∷◌, length, refl, sym, ◌∙◌, ap, subst}
 use Rattle.std.specs.Prelude.{Option, Some, None, is_some, ◌||◌}
 use Rattle.block_id.proofs.Options.{none_is}
-use Rattle.data_nodes.specs.Layout.{leaf, IsNode, room}
+use Rattle.data_tree.specs.data_nodes.Layout.{leaf, IsNode, room}
 use Rattle.store_api.specs.Content.{Id, Content, same_id, SameContent}
 use Rattle.store_api.proofs.Rising.{same_id_is}
 use Rattle.data_tree.specs.Stored.{BlobTree, StoresBlobs}

@@ -5,7 +5,7 @@ use Rattle.std.specs.FinMap.{get, same_map, slice_cmp-IsAntisymmetric, nat_cmp-I
 use Rattle.std.specs.Cmp.Lexicographic.{nat_list_cmp_total}
 use Rattle.std.proofs.lemmas.Bool.{or_cases, or_right, or_left}
 use Rattle.block_id.proofs.Options.{some_of}
-use Rattle.data_nodes.specs.Layout.{NodeText}
+use Rattle.data_tree.specs.data_nodes.Layout.{NodeText}
 use Rattle.store_api.specs.Content.{Id, Content, same_id}
 use Rattle.store_api.specs.Holdings.{has_id}
 use Rattle.store_api.proofs.Rising.{same_id_is}

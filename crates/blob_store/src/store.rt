@@ -7,7 +7,7 @@ use blob_api::Blobs;
 use block_id::{BlockId, Fail};
 use std::alloc::Global;
 use store_api::{Blocks, Tx};
-use tree_calls::{drop_tree, new_tree, read_range};
+use tree_ranges::tree_calls::{drop_tree, new_tree, read_range};
 use tree_ranges::write_range;
 
 /// Byte lists in the blocks of a store, as its changes show them: the blocks are exactly the trees of the lists.
@@ -46,7 +46,7 @@ impl<S: Blocks> Blobs for BlobStore<S> {
     }
 
     fn len(&mut self, alloc: Global, id: &BlockId) -> Result<u64, Fail> {
-        tree_calls::len(alloc, &mut self.tx, id)
+        tree_ranges::tree_calls::len(alloc, &mut self.tx, id)
     }
 
     fn read(

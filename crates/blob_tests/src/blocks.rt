@@ -1,11 +1,11 @@
 // Which blocks of a store the blobs in it change.
-use blob_api::Blobs;
 use blob_store::BlobStore;
+use map_blobs::blob_api::Blobs;
 use map_store::MapStore;
+use map_store::store_api::{BlocksMut, Tx};
 use rand_pcg::Pcg32;
 use std::alloc::Global;
 use std::test::Fail;
-use store_api::{BlocksMut, Tx};
 
 /// No blobs, over blocks of 50 bytes in memory.
 pub(crate) fn empty(alloc: Global) -> BlobStore<MapStore>

@@ -2,7 +2,7 @@
 ghost use Rattle.std.specs.Prelude.{◌≤◌, IfSome};
 
 use block_id::{BlockId, Memory};
-use dir_entries::{Entry, decode_entries, encode_entries};
+use dir_blob::dir_entries::{Entry, decode_entries, encode_entries};
 use fs_model::{Attr, Kind, MAX_MODE, Moment, Name};
 use std::alloc::Global;
 use std::test::Fail;

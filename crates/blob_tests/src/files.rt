@@ -1,6 +1,6 @@
 // A blob of the file system, with its header and its body.
 use block_id::BlockId;
-use fs_blobs::{
+use dir_blob::fs_blobs::{
     Header, blob_header, body_len, new_blob, read_body, resize_body, set_parent, write_body,
 };
 use fs_model::Kind;

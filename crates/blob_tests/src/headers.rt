@@ -1,6 +1,6 @@
 // A header as bytes.
 use block_id::BlockId;
-use fs_blobs::{Header, header_bytes, read_header};
+use dir_blob::fs_blobs::{Header, header_bytes, read_header};
 use fs_model::Kind;
 use std::test::Fail;
 

@@ -2,9 +2,9 @@
 ghost use Rattle.std.specs.Prelude.{◌≤◌, IfOk, length};
 
 use block_id::BlockId;
+use dir_blob::dir_entries::{Entry, encode_entries};
+use dir_blob::fs_blobs::{Header, new_blob};
 use dir_blob::{change, entries, find_target, insert, remove, whole_body};
-use dir_entries::{Entry, encode_entries};
-use fs_blobs::{Header, new_blob};
 use fs_model::{Attr, FILE_MODE, Kind, MAX_MODE, Moment, Name};
 use map_blobs::MapBlobs;
 use std::alloc::Global;

@@ -1,17 +1,17 @@
 // Trees over a store in memory, at the smallest block: a leaf has 42 bytes, and a node two children.
 ghost use Rattle.std.specs.Prelude.{◌≤◌, ◌^◌};
-ghost use Rattle.store_api.specs.Txs.{intact_in};
+ghost use Rattle.map_store.specs.store_api.Txs.{intact_in};
 
+use blob_store::data_nodes::Node;
+use blob_store::data_tree::{load_at, load_root, put_new, put_node};
+use blob_store::tree_calls::{drop_tree, len, new_tree, read_range};
+use blob_store::tree_ranges::{resize, write_range};
 use block_id::{BlockId, Why};
-use data_nodes::Node;
-use data_tree::{load_at, load_root, put_new, put_node};
 use map_store::MapStore;
+use map_store::store_api::{Blocks, BlocksMut, Tx};
 use rand_pcg::Pcg32;
 use std::alloc::Global;
 use std::test::Fail;
-use store_api::{Blocks, BlocksMut, Tx};
-use tree_calls::{drop_tree, len, new_tree, read_range};
-use tree_ranges::{resize, write_range};
 
 const SIZES: [usize; 7] = [0, 42, 43, 84, 85, 168, 169];
 
@@ -128,7 +128,7 @@ fn resize_by<S: Blocks>(
     ensures { intact_in S.meanings S.holdings tx.new }
 {
     if plainly {
-        return tree_calls::resize(alloc, tx, root, n);
+        return blob_store::tree_calls::resize(alloc, tx, root, n);
     }
     resize(alloc, tx, root, n)
 }

@@ -4,9 +4,9 @@ use Rattle.std.specs.Prelude.{Result, Ok, IfSome, is_some}
 use Rattle.block_id.specs.declared.fail.Fail.{Fail}
 use Rattle.block_id.specs.declared.id.BlockId.{BlockId}
 use Rattle.outside.specs.View.{bytes_of}
-use Rattle.outcome.specs.Meanings.{Meanings, Lawful}
-use Rattle.outcome.specs.Outcome.{Outcome}
-use Rattle.outcome.specs.Lift.{lifted_with}
+use Rattle.store_api.specs.outcome.Meanings.{Meanings, Lawful}
+use Rattle.store_api.specs.outcome.Outcome.{Outcome}
+use Rattle.store_api.specs.outcome.Lift.{lifted_with}
 use Rattle.std.specs.FinMap.{get}
 use Rattle.std.proofs.lemmas.Option.{none-some}
 use Rattle.store_api.specs.Content.{Id, Changes, or_else}

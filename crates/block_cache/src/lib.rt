@@ -6,3 +6,6 @@ mod cache;
 mod payloads;
 
 pub use cache::BlockCache;
+
+// Handed on to crates above, which needn't list them.
+pub use store_api;

@@ -5,7 +5,7 @@ use Rattle.std.specs.List.{slice_get}
 use Rattle.std.specs.Option.{option_map}
 use Rattle.std.proofs.lemmas.List.{length-map}
 use Rattle.std.proofs.lemmas.Option.{slice_get_cases}
-use Rattle.store_api.specs.Content.{Id}
+use Rattle.block_survey.specs.store_api.Content.{Id}
 use Rattle.cryfs_check.specs.declared.place.Place.{Place}
 use Rattle.cryfs_check.specs.declared.place.Visit.{Visit}
 use Rattle.cryfs_check.specs.Places.{AreBehind, place_text, places_text, sites_of, site_needs, visit_needs}

@@ -1,18 +1,18 @@
 // The paths of refused blocks.
 ghost use Rattle.std.specs.Prelude.{◌≡◌, T, map};
 ghost use Rattle.std.specs.FinMap.{is_sorted};
-ghost use Rattle.store_api.specs.Content.{id_cmp};
+ghost use Rattle.block_survey.specs.store_api.Content.{id_cmp};
 ghost use Rattle.block_survey.specs.Surveys.{Surveys, refusal_of};
-ghost use Rattle.block_walk.specs.Marks.{unmarked};
+ghost use Rattle.block_survey.specs.block_walk.Marks.{unmarked};
 ghost use Rattle.cryfs_check.specs.Places.{AreBehind, places_text};
 
 use crate::reading::read_places;
 use block_id::{BlockId, Fail, Memory};
+use block_survey::block_walk::Marks;
+use block_survey::store_api::Blocks;
 use block_survey::{Refused, explore_blob};
-use block_walk::Marks;
 use cryfs_check::{Place, path_at, visit_at};
 use std::alloc::Global;
-use store_api::Blocks;
 
 /// Gives each refused block the path that it belongs to, where the blocks that are given say so. Directories are loaded, and
 /// of files the inner nodes.

@@ -5,3 +5,7 @@ mod finding;
 mod reading;
 
 pub use finding::find_paths;
+
+// Handed on to crates above, which needn't list them.
+pub use block_survey;
+pub use cryfs_check;

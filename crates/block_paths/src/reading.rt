@@ -1,17 +1,17 @@
 // The paths of a file system, as far as its directories are given.
 ghost use Rattle.std.specs.Prelude.{◌<◌, ◌≤◌, T, length, map, IfOk, OnOk};
 ghost use Rattle.std.specs.FinMap.{is_sorted};
-ghost use Rattle.store_api.specs.Content.{id_cmp};
+ghost use Rattle.block_survey.specs.store_api.Content.{id_cmp};
 ghost use Rattle.block_survey.specs.Surveys.{Surveys};
-ghost use Rattle.block_walk.specs.Marks.{unmarked};
+ghost use Rattle.block_survey.specs.block_walk.Marks.{unmarked};
 ghost use Rattle.cryfs_check.specs.Places.{AreBehind, places_text};
 
 use block_id::{BlockId, Fail, Memory};
-use block_walk::{Halt, Marks};
+use block_survey::block_walk::{Halt, Marks};
+use block_survey::store_api::Blocks;
 use cryfs_check::{Place, Visit, place_entries, visit, visit_at};
 use fs_model::Kind;
 use std::alloc::Global;
-use store_api::Blocks;
 
 /// The paths from the root on. What stands below a directory that isn't given, or isn't one, isn't among them.
 pub(crate) fn read_places<B: Blocks>(

@@ -9,13 +9,13 @@ use Rattle.block_id.specs.declared.fail.Fail.TheVariants.{Memory}
 use Rattle.block_id.specs.declared.fail.Why.{Why}
 use Rattle.block_id.specs.declared.id.BlockId.{BlockId}
 use Rattle.block_walk.specs.Given.{Asked}
-use Rattle.data_nodes.specs.Layout.{ids_of}
-use Rattle.data_tree.proofs.Forests.{stays-same, stays-then}
-use Rattle.data_tree.proofs.Ids.{same_self}
-use Rattle.outcome.specs.Meanings.{Meanings, Lawful, HasCause, IsQuiet}
-use Rattle.store_api.specs.Content.{Id, same_id}
-use Rattle.store_api.specs.Holdings.{Holdings, has_id}
-use Rattle.store_api.specs.Loads.{LoadAnswer}
+use Rattle.block_walk.specs.data_nodes.Layout.{ids_of}
+use Rattle.block_walk.proofs.data_tree_lemmas.Forests.{stays-same, stays-then}
+use Rattle.block_walk.proofs.data_tree_lemmas.Ids.{same_self}
+use Rattle.block_walk.specs.outcome.Meanings.{Meanings, Lawful, HasCause, IsQuiet}
+use Rattle.block_walk.specs.store_api.Content.{Id, same_id}
+use Rattle.block_walk.specs.store_api.Holdings.{Holdings, has_id}
+use Rattle.block_walk.specs.store_api.Loads.{LoadAnswer}
 use Rattle.block_survey.specs.Surveys.{IsNoted, IsSurvey, IsCutShort, Surveys, refused_by}
 
 ids_more : (live : List BlockId) (i : ℕ) (d : BlockId) → i < length live → (get_or live i d).0 ∷ reverse (ids_of (take i live)) ≡ reverse (ids_of (take (i + 1) live))

@@ -7,10 +7,10 @@ use Rattle.block_id.specs.declared.fail.Fail.{Fail}
 use Rattle.block_id.specs.declared.fail.Fail.TheVariants.{Memory, Fault, Violation}
 use Rattle.block_id.specs.declared.fail.Why.{Why}
 use Rattle.block_walk.specs.Given.{Asked, AskedBy}
-use Rattle.outcome.specs.Meanings.{Meanings, HasCause, IsCalm, IsQuiet}
-use Rattle.store_api.specs.Content.{Id}
-use Rattle.store_api.specs.Holdings.{Holdings, Stays}
-use Rattle.store_api.specs.Loads.{LoadAnswer}
+use Rattle.block_walk.specs.outcome.Meanings.{Meanings, HasCause, IsCalm, IsQuiet}
+use Rattle.block_walk.specs.store_api.Content.{Id}
+use Rattle.block_walk.specs.store_api.Holdings.{Holdings, Stays}
+use Rattle.block_walk.specs.store_api.Loads.{LoadAnswer}
 use Rattle.block_survey.specs.declared.survey.Refused.{Refused}
 
 abbrev pub refusal_of : Refused → Id × Why

@@ -4,11 +4,11 @@ ghost use Rattle.block_survey.specs.Surveys.{Surveys, refusal_of};
 
 use crate::survey::Refused;
 use block_id::{BlockId, Fail, Memory};
+use block_walk::data_nodes::{Node, read_node};
+use block_walk::store_api::Blocks;
 use block_walk::{Marks, Reaching};
-use data_nodes::{Node, read_node};
 use fs_model::Path;
 use std::alloc::Global;
-use store_api::Blocks;
 
 /// Gives the refused blocks of the blob with this root its path, where they have none. Of the blob its inner nodes are loaded
 /// alone, and those that have a mark aren't. What is below a node that isn't given isn't known.

@@ -6,3 +6,7 @@ mod survey;
 
 pub use exploring::explore_blob;
 pub use survey::{Refused, survey_blocks};
+
+// Handed on to crates above, which needn't list them.
+pub use block_walk;
+pub use block_walk::store_api;

@@ -1,15 +1,15 @@
 // A survey of the blocks of a store.
 ghost use Rattle.std.specs.Prelude.{◌≡◌, map, true, is_some, IfOk, OnOk, OnErr};
-ghost use Rattle.store_api.specs.Content.{Id};
-ghost use Rattle.store_api.specs.Holdings.{has_id};
-ghost use Rattle.store_api.specs.Loads.{LoadAnswer};
-ghost use Rattle.data_nodes.specs.Layout.{ids_of};
+ghost use Rattle.block_walk.specs.store_api.Content.{Id};
+ghost use Rattle.block_walk.specs.store_api.Holdings.{has_id};
+ghost use Rattle.block_walk.specs.store_api.Loads.{LoadAnswer};
+ghost use Rattle.block_walk.specs.data_nodes.Layout.{ids_of};
 ghost use Rattle.block_survey.specs.Surveys.{HasVerdict, IsNoted, IsSurvey, IsCutShort, Surveys, refusal_of};
 
 use block_id::{BlockId, Fail, Why};
+use block_walk::store_api::Blocks;
 use fs_model::Path;
 use std::alloc::Global;
-use store_api::Blocks;
 
 /// A block that its verdict refuses.
 #[derive(Drop)]

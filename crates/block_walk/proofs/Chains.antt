@@ -3,10 +3,10 @@ use Rattle.std.proofs.Common.{◌≡◌, ◌⊎◌, ℕ, zero, suc, ◌+◌, ◌
 use Rattle.std.specs.Prelude.{map, reverse, Some, min, ◌||◌}
 use Rattle.std.proofs.lemmas.List.{length-take, length-append, map-append, reverse-append}
 use Rattle.std.proofs.lemmas.Bool.{or_cases, or_parts, false_from_ne_true}
-use Rattle.store_api.specs.Content.{Id, Content, same_id}
-use Rattle.store_api.specs.Holdings.{has_id}
-use Rattle.store_api.specs.Loads.{LoadAnswer}
-use Rattle.store_api.proofs.Rising.{same_id_is}
+use Rattle.data_tree.specs.store_api.Content.{Id, Content, same_id}
+use Rattle.data_tree.specs.store_api.Holdings.{has_id}
+use Rattle.data_tree.specs.store_api.Loads.{LoadAnswer}
+use Rattle.data_tree.proofs.store_api_lemmas.Rising.{same_id_is}
 use Rattle.data_tree.proofs.Ids.{in_one, not_both}
 use Rattle.block_walk.specs.Fronts.{FrontState, joined_front}
 use Rattle.block_walk.specs.Given.{Given, GaveBy, AgreesWith}

@@ -2,11 +2,11 @@
 use Rattle.std.proofs.Common.{◌≡◌, ◌⊎◌, inl, inr, ℕ, zero, suc, ◌+◌, ◌*◌, ◌-◌, ◌/◌, ◌<◌, ◌≤◌, Bool, true, false, List, [], ◌∷◌, ◌++◌, length, refl, sym, ◌∙◌, ap, subst, arith}
 use Rattle.std.proofs.lemmas.List.{length-append}
 use Rattle.std.proofs.Math.Nat.{mul-le-mul_right}
-use Rattle.data_nodes.specs.Layout.{NodeText, leaf, inner, fan_out}
+use Rattle.data_tree.specs.data_nodes.Layout.{NodeText, leaf, inner, fan_out}
 use Rattle.data_tree.specs.Trees.{IsTree, Holds, Forest, IsDepth, span, NoDoubles, depth_in}
 use Rattle.data_tree.specs.Stored.{BlobTree}
 use Rattle.data_tree.proofs.Making.{forest_more}
-use Rattle.store_api.specs.Content.{Id, Content}
+use Rattle.data_tree.specs.store_api.Content.{Id, Content}
 use Rattle.block_walk.specs.Walks.{IsNodeAt, FillsTree, FillsAll, FillsTrees}
 
 -- a node, and what stands below it

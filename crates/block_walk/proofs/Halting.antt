@@ -3,8 +3,8 @@ use Rattle.std.proofs.Common.{◌≡◌, ℕ, ◌<◌, List, [], ◌∷◌, ◌+
 use Rattle.std.specs.Prelude.{map, reverse, Some, Ok, Err, Result, IfErr}
 use Rattle.std.proofs.lemmas.List.{map-append, reverse-append}
 use Rattle.data_tree.proofs.Making.{alone-join}
-use Rattle.store_api.specs.Content.{Id, Content}
-use Rattle.store_api.specs.Loads.{LoadAnswer}
+use Rattle.data_tree.specs.store_api.Content.{Id, Content}
+use Rattle.data_tree.specs.store_api.Loads.{LoadAnswer}
 use Rattle.block_walk.specs.declared.flaw.Flaw.{Flaw}
 use Rattle.block_walk.specs.declared.flaw.Halt.{Halt}
 use Rattle.block_walk.specs.declared.flaw.Halt.TheVariants.{Found, Failing}

@@ -3,12 +3,12 @@ use Rattle.std.proofs.Common.{◌≡◌, ℕ, zero, suc, ◌<◌, Bool, true, Li
 use Rattle.std.specs.Prelude.{Some, nat_lt, length, ◌||◌}
 use Rattle.std.specs.List.{slice_get}
 use Rattle.std.proofs.lemmas.Bool.{or_cases}
-use Rattle.data_nodes.specs.Layout.{IsNode}
+use Rattle.data_tree.specs.data_nodes.Layout.{IsNode}
 use Rattle.data_tree.specs.Trees.{IsTree, Forest, span}
 use Rattle.data_tree.proofs.Ids.{in_one}
-use Rattle.store_api.specs.Content.{Id, Content, same_id}
-use Rattle.store_api.specs.Holdings.{has_id}
-use Rattle.store_api.proofs.Rising.{same_id_is}
+use Rattle.data_tree.specs.store_api.Content.{Id, Content, same_id}
+use Rattle.data_tree.specs.store_api.Holdings.{has_id}
+use Rattle.data_tree.proofs.store_api_lemmas.Rising.{same_id_is}
 use Rattle.block_walk.specs.Needs.{NodeNeed, under, fills, Leads, LeadsAmong}
 
 -- ---- trees side by side

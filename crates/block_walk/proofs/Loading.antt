@@ -3,13 +3,13 @@ use Rattle.std.proofs.Common.{◌≡◌, ℕ, ◌≤◌, [], ◌∷◌, sym, ◌
 use Rattle.std.specs.Prelude.{Ok, Err, Some, None, Option, Vec}
 use Rattle.std.specs.declared.alloc.Global.{Global}
 use Rattle.block_id.specs.declared.fail.Fail.{Fail}
-use Rattle.outcome.specs.Meanings.{Meanings, Lawful}
-use Rattle.outcome.specs.Outcome.{Outcome, answered, passed}
+use Rattle.data_tree.specs.outcome.Meanings.{Meanings, Lawful}
+use Rattle.data_tree.specs.outcome.Outcome.{Outcome, answered, passed}
 use Rattle.outside.specs.View.{bytes_of}
 use Rattle.data_tree.proofs.Forests.{stays-then, stays-same}
-use Rattle.store_api.specs.Content.{Id}
-use Rattle.store_api.specs.Holdings.{Holdings, Stays, Steady}
-use Rattle.store_api.specs.Loads.{LoadAnswer}
+use Rattle.data_tree.specs.store_api.Content.{Id}
+use Rattle.data_tree.specs.store_api.Holdings.{Holdings, Stays, Steady}
+use Rattle.data_tree.specs.store_api.Loads.{LoadAnswer}
 use Rattle.block_walk.specs.Given.{Given, GaveBy, Asked, AskedBy, AgreesWith, IsLoad, given_of}
 
 module _ {S : Type 0} {M : Meanings S} {H : Holdings S} {loads : S → S → Id → LoadAnswer → Type 0} {a b : S} {id : Id} where

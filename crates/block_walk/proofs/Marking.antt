@@ -9,7 +9,7 @@ use Rattle.std.specs.Cmp.Lexicographic.{nat_list_cmp_total}
 use Rattle.std.proofs.Math.ListN.{set}
 use Rattle.row_table.specs.Sorted.{IsElementAt}
 use Rattle.row_table.proofs.SortedLemmas.{set_put}
-use Rattle.store_api.specs.Content.{Id, id_cmp, same_id}
+use Rattle.data_tree.specs.store_api.Content.{Id, id_cmp, same_id}
 use Rattle.block_walk.specs.declared.marks.Mark.{Mark}
 use Rattle.block_walk.specs.Marks.{mark_entry, MarkedOne, owner_of}
 

@@ -7,12 +7,12 @@ use Rattle.std.proofs.Common.{get_or}
 use Rattle.std.proofs.lemmas.Bool.{or_cases, lt-ltb, le-ltb}
 use Rattle.std.proofs.lemmas.Option.{slice_get-map, slice_get-get_or}
 use Rattle.block_id.specs.declared.id.BlockId.{BlockId}
-use Rattle.data_nodes.specs.Layout.{NodeText, ids_of, leaf, inner, IsNode}
-use Rattle.data_nodes.proofs.Laws.{one_node}
+use Rattle.data_tree.specs.data_nodes.Layout.{NodeText, ids_of, leaf, inner, IsNode}
+use Rattle.data_tree.proofs.data_nodes_lemmas.Laws.{one_node}
 use Rattle.data_tree.specs.Trees.{IsTree, Forest, IsDepth, depth_in}
-use Rattle.store_api.specs.Content.{Id, Content, same_id}
-use Rattle.store_api.specs.Holdings.{has_id}
-use Rattle.store_api.proofs.Rising.{same_id_is}
+use Rattle.data_tree.specs.store_api.Content.{Id, Content, same_id}
+use Rattle.data_tree.specs.store_api.Holdings.{has_id}
+use Rattle.data_tree.proofs.store_api_lemmas.Rising.{same_id_is}
 use Rattle.block_walk.specs.declared.flaw.Flaw.{Flaw}
 use Rattle.block_walk.specs.declared.flaw.Flaw.TheVariants.{BadNode, BadBlob, Parent, Twice, NotLive, Unowned}
 use Rattle.block_walk.specs.Marks.{MarkList, MarkedAll, owner_of}

@@ -1,11 +1,11 @@
 -- Walks, one after another.
 use Rattle.std.proofs.Common.{◌≡◌, ℕ, ◌<◌, List, [], ◌∷◌, ◌++◌, refl, ◌∙◌}
 use Rattle.std.specs.Prelude.{Ok, Err, Result, IfOk, Some, length}
-use Rattle.data_nodes.specs.Layout.{NodeText, IsNode}
+use Rattle.data_tree.specs.data_nodes.Layout.{NodeText, IsNode}
 use Rattle.data_tree.specs.Trees.{NoDoubles}
 use Rattle.data_tree.proofs.Making.{alone-join}
-use Rattle.store_api.specs.Content.{Id, Content}
-use Rattle.store_api.specs.Loads.{LoadAnswer}
+use Rattle.data_tree.specs.store_api.Content.{Id, Content}
+use Rattle.data_tree.specs.store_api.Loads.{LoadAnswer}
 use Rattle.block_walk.specs.Fronts.{FrontState, joined_front}
 use Rattle.block_walk.specs.Marks.{MarkList, MarkedOne}
 use Rattle.block_walk.specs.Walks.{Walked, IsNodeAt}

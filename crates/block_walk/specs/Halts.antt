@@ -1,10 +1,10 @@
 -- Why a walk stopped, and what it did before.
 use Rattle.std.specs.Prelude.{◌≡◌, ◌<◌, ◌⊎◌, ℕ, suc, false, List, map, reverse, Some, None, is_some}
-use Rattle.data_nodes.specs.Layout.{NodeText, inner}
+use Rattle.data_tree.specs.data_nodes.Layout.{NodeText, inner}
 use Rattle.data_tree.specs.Trees.{NoDoubles}
-use Rattle.store_api.specs.Content.{Id, Content}
-use Rattle.store_api.specs.Holdings.{Holdings}
-use Rattle.store_api.specs.Loads.{LoadAnswer}
+use Rattle.data_tree.specs.store_api.Content.{Id, Content}
+use Rattle.data_tree.specs.store_api.Holdings.{Holdings}
+use Rattle.data_tree.specs.store_api.Loads.{LoadAnswer}
 use Rattle.block_walk.specs.declared.flaw.Flaw.{Flaw}
 use Rattle.block_walk.specs.declared.flaw.Flaw.TheVariants.{BadNode, Twice, NotLive}
 use Rattle.block_walk.specs.declared.flaw.Halt.{Halt}

@@ -4,8 +4,8 @@ use Rattle.std.specs.FinMap.{find}
 use Rattle.std.specs.List as lists
 use Rattle.std.specs.Option.{option_map}
 use Rattle.block_id.specs.declared.id.BlockId.{BlockId}
-use Rattle.store_api.specs.Content.{Id, id_cmp, same_id}
-use Rattle.store_api.specs.Holdings.{has_id}
+use Rattle.data_tree.specs.store_api.Content.{Id, id_cmp, same_id}
+use Rattle.data_tree.specs.store_api.Holdings.{has_id}
 use Rattle.block_walk.specs.declared.marks.Mark.{Mark}
 use Rattle.block_walk.specs.declared.marks.Reaching.{Reaching}
 use Rattle.block_walk.specs.declared.marks.Reaching.TheVariants.{First, Twice, NotLive}

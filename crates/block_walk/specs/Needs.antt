@@ -1,11 +1,11 @@
 -- What a blob's tree needs of each of its nodes.
 use Rattle.std.specs.Prelude.{◌≡◌, ◌≤◌, ◌<◌, ◌*◌, ◌^◌, ◌||◌, ℕ, suc, Bool, true, false, nat_lt, List, [], ◌∷◌, length, Some}
 use Rattle.std.specs.List.{slice_get}
-use Rattle.data_nodes.specs.Layout.{NodeText, leaf, inner, IsNode, room, fan_out}
+use Rattle.data_tree.specs.data_nodes.Layout.{NodeText, leaf, inner, IsNode, room, fan_out}
 use Rattle.data_tree.specs.declared.level.Level.{Level}
 use Rattle.data_tree.specs.Roots.{IsAtLevel}
 use Rattle.data_tree.specs.Trees.{IsDepth, depth_in, span}
-use Rattle.store_api.specs.Content.{Id, Content}
+use Rattle.data_tree.specs.store_api.Content.{Id, Content}
 
 -- a blob's root, or a node of this depth below it, which may have to be full
 pub data NodeNeed : Type 0 where

@@ -11,3 +11,6 @@ pub use flaw::{Flaw, Halt};
 pub use front::Front;
 pub use marks::{Mark, Marks, Reaching};
 pub use walk::walk_root;
+
+// Handed on to crates above, which needn't list them.
+pub use data_tree::{data_nodes, store_api};

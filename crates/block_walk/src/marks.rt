@@ -3,7 +3,7 @@ ghost use Rattle.std.specs.Prelude.{◌≡◌, ◌<◌, T, map, length, IfOk, If
 ghost use Rattle.std.specs.FinMap.{is_sorted};
 ghost use Rattle.std.specs.List.{slice_get};
 ghost use Rattle.std.specs.Option.{option_map};
-ghost use Rattle.store_api.specs.Content.{id_cmp};
+ghost use Rattle.data_tree.specs.store_api.Content.{id_cmp};
 ghost use Rattle.row_table.specs.Sorted.{IsElementAt, IsGap};
 ghost use Rattle.block_walk.specs.Marks.{mark_entry, unmarked, first_unowned, OnReaching};
 
@@ -40,7 +40,7 @@ pub struct Marks {
 impl Model for Marks {
     ghost use Rattle.std.specs.Prelude.{T, map};
     ghost use Rattle.std.specs.FinMap.{is_sorted};
-    ghost use Rattle.store_api.specs.Content.{id_cmp};
+    ghost use Rattle.data_tree.specs.store_api.Content.{id_cmp};
     ghost use Rattle.block_walk.specs.Marks.{mark_entry, MarkList};
 
     ghost Value = { MarkList };

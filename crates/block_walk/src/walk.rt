@@ -1,9 +1,9 @@
 // A walk over the blocks of one tree.
 ghost use Rattle.std.specs.Prelude.{◌≡◌, ◌<◌, [], length, IfOk, IfErr};
-ghost use Rattle.outcome.specs.Meanings.{IsOfBlocks};
-ghost use Rattle.outcome.specs.Outcome.{Outcome};
-ghost use Rattle.store_api.specs.Holdings.{Stays};
-ghost use Rattle.data_nodes.specs.Layout.{node_of, ids_of, FitsPayload};
+ghost use Rattle.data_tree.specs.outcome.Meanings.{IsOfBlocks};
+ghost use Rattle.data_tree.specs.outcome.Outcome.{Outcome};
+ghost use Rattle.data_tree.specs.store_api.Holdings.{Stays};
+ghost use Rattle.data_tree.specs.data_nodes.Layout.{node_of, ids_of, FitsPayload};
 ghost use Rattle.data_tree.specs.Trees.{IsTree, Holds, Forest, span};
 ghost use Rattle.data_tree.specs.Stored.{BlobTree};
 ghost use Rattle.block_walk.specs.Fronts.{FrontState};
@@ -16,10 +16,10 @@ use crate::flaw::{Flaw, Halt};
 use crate::front::Front;
 use crate::marks::{Marks, Reaching};
 use block_id::{BlockId, Fail, Memory};
-use data_nodes::{Node, read_node};
+use data_tree::data_nodes::{Node, read_node};
+use data_tree::store_api::Blocks;
 use data_tree::{Level, depth_of, level_of};
 use std::alloc::Global;
-use store_api::Blocks;
 
 /// What a node below a blob's root has to be.
 #[derive(Clone, Copy)]

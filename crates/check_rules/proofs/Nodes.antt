@@ -5,14 +5,14 @@ use Rattle.std.specs.List.{slice_get}
 use Rattle.std.proofs.lemmas.Bool.{or_cases, or_left, or_right, ltb-true}
 use Rattle.std.proofs.Math.Nat.{mul-le-mul_right}
 use Rattle.block_walk.specs.Needs.{NodeNeed, top, under, fills, Serves}
-use Rattle.data_nodes.specs.Layout.{NodeText, leaf, inner, IsNode, FitsPayload, fan_out}
-use Rattle.data_tree.specs.Trees.{IsTree, Holds, Forest, IsDepth, NoDoubles, span, depth_in}
-use Rattle.data_tree.proofs.Counting.{count_few}
-use Rattle.data_tree.proofs.Forests.{forest-length, inner_is}
-use Rattle.data_tree.proofs.Ids.{same_self}
-use Rattle.data_tree.proofs.Loads.{holds-depth}
-use Rattle.store_api.specs.Content.{Id, Content, same_id}
-use Rattle.store_api.specs.Holdings.{has_id}
+use Rattle.block_walk.specs.data_nodes.Layout.{NodeText, leaf, inner, IsNode, FitsPayload, fan_out}
+use Rattle.block_walk.specs.data_tree.Trees.{IsTree, Holds, Forest, IsDepth, NoDoubles, span, depth_in}
+use Rattle.block_walk.proofs.data_tree_lemmas.Counting.{count_few}
+use Rattle.block_walk.proofs.data_tree_lemmas.Forests.{forest-length, inner_is}
+use Rattle.block_walk.proofs.data_tree_lemmas.Ids.{same_self}
+use Rattle.block_walk.proofs.data_tree_lemmas.Loads.{holds-depth}
+use Rattle.block_walk.specs.store_api.Content.{Id, Content, same_id}
+use Rattle.block_walk.specs.store_api.Holdings.{has_id}
 use Rattle.check_rules.proofs.OneTree.{node_is}
 use Rattle.check_rules.proofs.Pieces.{piece_at, one_piece}
 

@@ -10,14 +10,14 @@ use Rattle.block_walk.specs.Given.{Given, AgreesWith, content_of}
 use Rattle.block_walk.specs.Halts.{FlawAt}
 use Rattle.block_walk.specs.Marks.{MarkList}
 use Rattle.block_walk.specs.Needs.{NodeNeed, top, Leads}
-use Rattle.data_tree.specs.Stored.{BlobTree}
-use Rattle.data_tree.specs.Trees.{NoDoubles}
-use Rattle.data_tree.proofs.Ids.{same_self}
+use Rattle.block_walk.specs.data_tree.Stored.{BlobTree}
+use Rattle.block_walk.specs.data_tree.Trees.{NoDoubles}
+use Rattle.block_walk.proofs.data_tree_lemmas.Ids.{same_self}
 use Rattle.fs_model.specs.declared.attr.Kind.{Kind}
 use Rattle.fs_model.specs.Tree.{Path}
-use Rattle.store_api.specs.Content.{Id, Content, id_cmp, same_id}
-use Rattle.store_api.specs.Holdings.{has_id}
-use Rattle.store_api.proofs.Rising.{same_id_is}
+use Rattle.block_walk.specs.store_api.Content.{Id, Content, id_cmp, same_id}
+use Rattle.block_walk.specs.store_api.Holdings.{has_id}
+use Rattle.block_walk.proofs.store_api_lemmas.Rising.{same_id_is}
 use Rattle.check_rules.specs.Flaws.{HasFlaw}
 use Rattle.check_rules.specs.Marked.{MarksOthers}
 use Rattle.check_rules.specs.Reached.{IsReached, Place, NeedsNode}

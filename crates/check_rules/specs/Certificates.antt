@@ -1,14 +1,14 @@
 -- Which path owns each block, and that what was given shows so.
 use Rattle.std.specs.Prelude.{◌≡◌, ℕ, true, T, List, map, Some, is_some}
 use Rattle.std.specs.FinMap.{find, get, is_sorted}
-use Rattle.blob_api.specs.BlobMap.{BlobMap}
+use Rattle.path_walks.specs.blob_api.BlobMap.{BlobMap}
 use Rattle.block_walk.specs.Given.{Given, content_of}
-use Rattle.data_tree.specs.Stored.{BlobTree, StoresBlobs}
-use Rattle.data_tree.specs.Trees.{NoDoubles}
-use Rattle.forest.specs.Shows.{ShowsBy}
+use Rattle.block_walk.specs.data_tree.Stored.{BlobTree, StoresBlobs}
+use Rattle.block_walk.specs.data_tree.Trees.{NoDoubles}
+use Rattle.path_walks.specs.forest.Shows.{ShowsBy}
 use Rattle.fs_model.specs.Tree.{Path, Tree}
-use Rattle.store_api.specs.Content.{Id, Content, id_cmp}
-use Rattle.store_api.specs.Holdings.{has_id}
+use Rattle.block_walk.specs.store_api.Content.{Id, Content, id_cmp}
+use Rattle.block_walk.specs.store_api.Holdings.{has_id}
 
 -- ids, each with a path
 abbrev pub Owners : Type 0

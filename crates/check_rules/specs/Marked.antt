@@ -4,8 +4,8 @@ use Rattle.block_walk.specs.Halts.{IsOwned}
 use Rattle.block_walk.specs.Marks.{MarkList, owner_of}
 use Rattle.block_walk.specs.Needs.{NodeNeed}
 use Rattle.fs_model.specs.Tree.{Path}
-use Rattle.store_api.specs.Content.{Id, Content}
-use Rattle.store_api.specs.Holdings.{has_id}
+use Rattle.block_walk.specs.store_api.Content.{Id, Content}
+use Rattle.block_walk.specs.store_api.Holdings.{has_id}
 use Rattle.check_rules.specs.Reached.{Place, NeedsNode}
 
 -- a place of another path needs this node

@@ -1,19 +1,19 @@
 // A flaw leaves no tree to show.
 ghost use Rattle.std.specs.Prelude.{◌≡◌, ℕ, List, map, true, false};
 ghost use Rattle.std.specs.FinMap.{get};
-ghost use Rattle.blob_api.specs.BlobMap.{BlobMap};
+ghost use Rattle.path_walks.specs.blob_api.BlobMap.{BlobMap};
 ghost use Rattle.block_walk.specs.declared.flaw.Flaw.{Flaw};
 ghost use Rattle.block_walk.specs.Given.{Given, AgreesWith, content_of};
 ghost use Rattle.block_walk.specs.Halts.{FlawAt};
 ghost use Rattle.block_walk.specs.Marks.{MarkList};
 ghost use Rattle.block_walk.specs.Needs.{top, Leads};
-ghost use Rattle.data_tree.specs.Trees.{NoDoubles};
+ghost use Rattle.block_walk.specs.data_tree.Trees.{NoDoubles};
 ghost use Rattle.fs_model.specs.declared.attr.Kind.{Kind};
-ghost use Rattle.data_tree.specs.Stored.{StoresBlobs};
-ghost use Rattle.forest.specs.Shows.{ShowsTree};
+ghost use Rattle.block_walk.specs.data_tree.Stored.{StoresBlobs};
+ghost use Rattle.path_walks.specs.forest.Shows.{ShowsTree};
 ghost use Rattle.fs_model.specs.Tree.{Path, Tree};
-ghost use Rattle.store_api.specs.Content.{Id, Content};
-ghost use Rattle.store_api.specs.Holdings.{has_id};
+ghost use Rattle.block_walk.specs.store_api.Content.{Id, Content};
+ghost use Rattle.block_walk.specs.store_api.Holdings.{has_id};
 ghost use Rattle.check_rules.specs.Certificates.{Owners, Certifies};
 ghost use Rattle.check_rules.specs.Flaws.{HasFlaw, HasUnowned, Refutes};
 ghost use Rattle.check_rules.specs.Marked.{MarksOthers};

@@ -4,10 +4,10 @@ use Rattle.std.specs.Prelude.{◌≢◌, Result, Ok, Err, IfErr}
 use Rattle.std.specs.declared.option.Option.{Option}
 use Rattle.block_id.specs.declared.fail.Fail.{Fail}
 use Rattle.block_id.specs.declared.fail.Fail.TheVariants as fail
-use Rattle.cryfs_check.specs.declared.checking.Checked.{Checked}
-use Rattle.cryfs_check.specs.declared.checking.Checked.TheVariants.{Yes, No}
-use Rattle.line_io.specs.Streams.{Stream, HasFailed}
-use Rattle.outcome.specs.Meanings.{HasCause, IsQuiet}
+use Rattle.block_paths.specs.cryfs_check.declared.checking.Checked.{Checked}
+use Rattle.block_paths.specs.cryfs_check.declared.checking.Checked.TheVariants.{Yes, No}
+use Rattle.check_texts.specs.line_io.Streams.{Stream, HasFailed}
+use Rattle.given_reads.specs.outcome.Meanings.{HasCause, IsQuiet}
 use Rattle.outside.specs.Causes.{RoseBy}
 use Rattle.outside.specs.Trace.{Call}
 use Rattle.outside.specs.declared.keeper.Keeper.{Ghosts as KeeperGhosts}
@@ -15,11 +15,11 @@ use Rattle.run_status.specs.declared.ended.Ended.{Ended}
 use Rattle.run_status.specs.declared.status.Status.{Status}
 use Rattle.run_status.specs.declared.status.Status.TheVariants.{Done, Violation, DirectoryFault, OutputFault, Memory}
 use Rattle.run_status.specs.Statuses.{first_of}
-use Rattle.session_lines.specs.Driven.{IsUnfailed}
+use Rattle.check_texts.specs.session_lines.Driven.{IsUnfailed}
 use Rattle.cryfs_setup.specs.session_runs.Openings.{HasCauses, StayOpen}
 use Rattle.cryfs_setup.specs.session_runs.Runs.{Outside, outside_of, IsExaminedRun, PasswordOpens}
 use Rattle.cryfs_setup.specs.mount_core.Showing.{ShowsFiles}
-use Rattle.check_rules.specs.Certificates.{Owners}
+use Rattle.block_paths.specs.check_rules.Certificates.{Owners}
 use Rattle.check_texts.specs.Telling.{AreOwnersTold, IsTold, ListsAfter}
 use Rattle.check_runs.specs.Judging.{is_bad}
 use Rattle.check_runs.specs.Running.{IsCheckTold}

@@ -8,8 +8,8 @@ mod SurveyWhole
 pub mod SurveyLeaving
 mod Telling
 -- Handed on to crates above, which name their lemmas so and needn't list them.
-pub use Rattle.cryfs_setup.proofs as cryfs_setup
-pub use Rattle.cryfs_setup.proofs.mount as mount
-pub use Rattle.cryfs_setup.proofs.mount_calls as mount_calls
-pub use Rattle.cryfs_setup.proofs.mount_tower as mount_tower
-pub use Rattle.cryfs_setup.proofs.session_runs as session_runs
+pub use Rattle.cryfs_setup.proofs as cryfs_setup_lemmas
+pub use Rattle.cryfs_setup.proofs.mount_lemmas as mount_lemmas
+pub use Rattle.cryfs_setup.proofs.mount_calls_lemmas as mount_calls_lemmas
+pub use Rattle.cryfs_setup.proofs.mount_tower_lemmas as mount_tower_lemmas
+pub use Rattle.cryfs_setup.proofs.session_runs_lemmas as session_runs_lemmas

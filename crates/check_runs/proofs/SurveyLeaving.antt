@@ -5,20 +5,20 @@ use Rattle.std.specs.declared.alloc.Global.{Global}
 use Rattle.std.specs.declared.option.Option.{Option}
 use Rattle.block_id.specs.declared.fail.Fail.{Fail}
 use Rattle.block_id.specs.declared.fail.Fail.TheVariants as fail
-use Rattle.block_survey.specs.declared.survey.Refused.{Refused}
-use Rattle.config_file.specs.Settings.{Settings}
-use Rattle.cryfs_check.specs.declared.checking.Checked.{Checked}
-use Rattle.cryfs_check.specs.declared.checking.Checked.TheVariants.{Yes, No}
+use Rattle.block_paths.specs.block_survey.declared.survey.Refused.{Refused}
+use Rattle.cryfs_setup.specs.config_file.Settings.{Settings}
+use Rattle.block_paths.specs.cryfs_check.declared.checking.Checked.{Checked}
+use Rattle.block_paths.specs.cryfs_check.declared.checking.Checked.TheVariants.{Yes, No}
 use Rattle.fs_model.specs.Tree.{Tree}
-use Rattle.line_io.specs.Streams.{Stream, HasFailed}
-use Rattle.outcome.specs.Meanings.{HasCause, IsQuiet}
+use Rattle.check_texts.specs.line_io.Streams.{Stream, HasFailed}
+use Rattle.given_reads.specs.outcome.Meanings.{HasCause, IsQuiet}
 use Rattle.outside.specs.Causes.{RoseBy}
 use Rattle.outside.specs.Trace.{Call}
 use Rattle.outside.specs.declared.keeper.Keeper.{Ghosts as KeeperGhosts}
 use Rattle.run_status.specs.declared.ended.Ended.{Ended}
 use Rattle.run_status.specs.declared.status.Status.{Status}
 use Rattle.run_status.specs.declared.status.Status.TheVariants.{Violation, DirectoryFault, OutputFault, Memory}
-use Rattle.session_lines.specs.Driven.{IsUnfailed}
+use Rattle.check_texts.specs.session_lines.Driven.{IsUnfailed}
 use Rattle.cryfs_setup.specs.session_runs.Openings.{HasCauses, StayOpen}
 use Rattle.cryfs_setup.specs.session_runs.Runs.{Outside, outside_of, OpensTo, IsQuietRun, PasswordOpens, lies}
 use Rattle.cryfs_setup.specs.mount_core.Showing.{ShowsFiles}

@@ -3,14 +3,14 @@ use Rattle.std.proofs.Common.{◌≡◌, ℕ, List, refl, sym, ◌∙◌, ap, su
 use Rattle.std.specs.Prelude.{Result, IsOk}
 use Rattle.std.specs.declared.option.Option.{Option}
 use Rattle.std.specs.declared.result.Result.TheVariants.{Ok, Err}
-use Rattle.line_io.specs.Streams.{Stream}
+use Rattle.check_texts.specs.line_io.Streams.{Stream}
 use Rattle.outside.specs.Trace.{Call}
 use Rattle.outside.specs.declared.keeper.Keeper.{Ghosts as KeeperGhosts}
-use Rattle.run_edges.specs.Statuses.{closing_status}
+use Rattle.cryfs_setup.specs.run_edges.Statuses.{closing_status}
 use Rattle.run_status.specs.Statuses.{first_of}
 use Rattle.run_status.specs.declared.status.Status.{Status}
 use Rattle.run_status.specs.declared.status.Status.TheVariants.{Done}
-use Rattle.session_saver.specs.declared.saver.SyncError.{SyncError}
+use Rattle.cryfs_setup.specs.session_saver.declared.saver.SyncError.{SyncError}
 use Rattle.check_texts.specs.Surveys.{IsSurveyTold}
 use Rattle.check_texts.specs.Telling.{IsTold, ListsAfter}
 use Rattle.check_runs.proofs.Leaving.{check_status, first_done}

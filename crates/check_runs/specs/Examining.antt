@@ -1,15 +1,15 @@
 -- What a run of a check found, and what it leaves.
 use Rattle.std.specs.Prelude.{◌≡◌, ◌⊎◌, ◌≤◌, ℕ, true, false, List, IfErr, IsOk}
 use Rattle.std.specs.declared.option.Option.{Option}
-use Rattle.config_file.specs.Settings.{Settings, settings_of}
-use Rattle.config_file.specs.declared.config.Opened.{Opened}
+use Rattle.cryfs_setup.specs.config_file.Settings.{Settings, settings_of}
+use Rattle.cryfs_setup.specs.config_file.declared.config.Opened.{Opened}
 use Rattle.fs_model.specs.Tree.{Tree}
-use Rattle.held_blocks.specs.Standing.{records}
+use Rattle.given_reads.specs.held_blocks.Standing.{records}
 use Rattle.cryfs_setup.specs.mount.Mounts.{Attached}
 use Rattle.cryfs_setup.specs.mount.declared.mount.Mount.{Mount}
-use Rattle.mount_blocks.specs.declared.examined.Examined.{Examined}
+use Rattle.cryfs_setup.specs.mount_blocks.declared.examined.Examined.{Examined}
 use Rattle.cryfs_setup.specs.mount_core.Standing.{IsKeptMarked}
-use Rattle.outcome.specs.Meanings.{HasCause, IsQuiet}
+use Rattle.given_reads.specs.outcome.Meanings.{HasCause, IsQuiet}
 use Rattle.outside.specs.Causes.{RoseBy}
 use Rattle.outside.specs.Trace.{Call}
 use Rattle.outside.specs.declared.keeper.Keeper.{Ghosts as KeeperGhosts}

@@ -12,3 +12,6 @@ pub use Rattle.cryfs_setup.specs.mount_migrating as mount_migrating
 pub use Rattle.cryfs_setup.specs.mount_tower as mount_tower
 pub use Rattle.cryfs_setup.specs.session_runs as session_runs
 pub use Rattle.cryfs_setup.specs.setup_texts as setup_texts
+pub use Rattle.block_paths.specs.check_rules as check_rules
+pub use Rattle.check_texts.specs as check_texts
+pub use Rattle.block_paths.specs.cryfs_check as cryfs_check

@@ -1,13 +1,13 @@
 -- What `check --all` does.
 use Rattle.std.specs.Prelude.{◌≡◌, ◌⊎◌, ℕ, List}
 use Rattle.std.specs.declared.option.Option.{Option}
-use Rattle.line_io.specs.Streams.{Stream, Untouched}
+use Rattle.check_texts.specs.line_io.Streams.{Stream, Untouched}
 use Rattle.cryfs_setup.specs.mount_tower.declared.error.OpenError.{OpenError}
 use Rattle.outside.specs.Trace.{Call}
 use Rattle.outside.specs.declared.keeper.Keeper.{Ghosts as KeeperGhosts}
-use Rattle.passwords.specs.Passwords.{PasswordUnread}
+use Rattle.cryfs_setup.specs.passwords.Passwords.{PasswordUnread}
 use Rattle.run_status.specs.declared.ended.Ended.{Ended}
-use Rattle.session_lines.specs.Driven.{IsUnfailed}
+use Rattle.check_texts.specs.session_lines.Driven.{IsUnfailed}
 use Rattle.cryfs_setup.specs.session_runs.Openings.{HasPassword, IsUnread, IsUnopened}
 use Rattle.check_texts.specs.Surveys.{IsSurveyTold}
 use Rattle.check_texts.specs.Telling.{ListsAfter}

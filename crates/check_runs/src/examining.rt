@@ -8,12 +8,12 @@ ghost use Rattle.check_runs.specs.Judging.{is_bad, Judges, Settles};
 ghost use Rattle.check_runs.specs.Examining.{Examines, IsExamined};
 
 use block_id::{Fail, Memory};
-use cryfs_check::{Checked, check};
+use block_paths::cryfs_check::{Checked, check};
+use cryfs_setup::mount_blocks::Examined;
+use cryfs_setup::session_saver::SyncError;
 use cryfs_setup::{Mount, close, condemn, open};
-use mount_blocks::Examined;
 use outside::{Keeper, Vault};
 use run_status::Ended;
-use session_saver::SyncError;
 use std::alloc::Global;
 
 /// What a check found, how the file system was closed, and what it was opened over.

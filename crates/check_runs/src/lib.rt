@@ -12,3 +12,6 @@ pub use examining::{Examination, examine};
 pub use running::run_check;
 pub use survey_run::run_survey;
 pub use surveying::{Survey, survey_under};
+
+// Handed on to crates above, which needn't list them.
+pub use check_texts::listing;

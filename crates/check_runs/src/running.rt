@@ -1,17 +1,17 @@
 // `check`: checks a whole file system.
 ghost use Rattle.std.specs.Prelude.{◌≡◌, ◌≤◌, []};
-ghost use Rattle.line_io.specs.Streams.{stream_of};
+ghost use Rattle.check_texts.specs.line_io.Streams.{stream_of};
 ghost use Rattle.cryfs_setup.specs.session_runs.Openings.{HasCauses};
 ghost use Rattle.cryfs_setup.specs.session_runs.Runs.{outside_of};
 ghost use Rattle.check_runs.specs.Running.{CheckedUnder, RanCheck};
 
 use crate::examining::{Examination, examine};
 use block_id::Memory;
+use check_texts::listing::Listing;
 use check_texts::{Page, tell_verdict};
-use listing::Listing;
+use cryfs_setup::passwords::read_password;
+use cryfs_setup::run_edges::closing_status;
 use outside::{Keeper, Sink, Source, Vault};
-use passwords::read_password;
-use run_edges::closing_status;
 use run_status::{Ended, Status, Storage};
 use std::alloc::Global;
 

@@ -9,14 +9,14 @@ ghost use Rattle.check_runs.specs.Surveying.{IsSurveyedRun, Looks, Places, Surve
 
 use crate::examining::{is_bad, judge};
 use block_id::{Fail, Memory};
+use block_paths::block_survey::{Refused, survey_blocks};
+use block_paths::cryfs_check::Checked;
 use block_paths::find_paths;
-use block_survey::{Refused, survey_blocks};
-use cryfs_check::Checked;
+use cryfs_setup::mount_blocks::Examined;
+use cryfs_setup::session_saver::SyncError;
 use cryfs_setup::{Mount, close, open};
-use mount_blocks::Examined;
 use outside::{Keeper, Vault};
 use run_status::Ended;
-use session_saver::SyncError;
 use std::alloc::Global;
 
 /// What a check found, which blocks are refused after a flaw or a violation, how the file system was closed, and what it was

@@ -5,7 +5,7 @@ use crate::comparing::{Tally, compare};
 use crate::entries::{DIRECTORY, FILE, LINK};
 use crate::samples::{NONE, entry, put_directory, put_row};
 use block_id::BlockId;
-use block_walk::Flaw;
+use cryfs_check::block_walk::Flaw;
 use std::alloc::Global;
 use std::test::Fail;
 

@@ -2,7 +2,7 @@
 use crate::blocks::Disk;
 use crate::judge::{Judge, judged};
 use crate::stores::check_disk;
-use block_walk::Flaw;
+use cryfs_check::block_walk::Flaw;
 use cryfs_check::{Checked, Owners};
 use fs_model::Path;
 use std::alloc::Global;

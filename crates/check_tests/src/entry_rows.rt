@@ -3,7 +3,7 @@ use crate::blocks::Disk;
 use crate::comparing::{Tally, compare};
 use crate::entries::{DIRECTORY, FILE, put_entry};
 use crate::samples::{NONE, entry, put_row};
-use block_walk::Flaw;
+use cryfs_check::block_walk::Flaw;
 use std::alloc::Global;
 use std::test::Fail;
 

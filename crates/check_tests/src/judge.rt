@@ -4,7 +4,7 @@ use crate::blocks::Disk;
 use crate::entries::{DIRECTORY, Entry, FILE, entry_in, front_of};
 use crate::nodes::{Parts, fan_out, ids_in, parts_of, room};
 use block_id::BlockId;
-use block_walk::Flaw;
+use cryfs_check::block_walk::Flaw;
 use std::alloc::Global;
 use std::test::Fail;
 

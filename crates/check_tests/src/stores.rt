@@ -3,10 +3,10 @@ use crate::blocks::Disk;
 use block_id::BlockId;
 use cryfs_check::{Checked, check};
 use map_store::MapStore;
+use map_store::store_api::{Blocks, BlocksMut};
 use rand_pcg::Pcg32;
 use std::alloc::Global;
 use std::test::Fail;
-use store_api::{Blocks, BlocksMut};
 use store_session::put_one;
 
 /// Puts all blocks, whose ids have to be new.

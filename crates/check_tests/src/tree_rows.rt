@@ -6,7 +6,7 @@ use crate::entries::{DIRECTORY, FILE};
 use crate::nodes::{inner_text, leaf_text};
 use crate::samples::{NONE, entry, filling, put_directory, put_row};
 use block_id::BlockId;
-use block_walk::Flaw;
+use cryfs_check::block_walk::Flaw;
 use std::alloc::Global;
 use std::test::Fail;
 

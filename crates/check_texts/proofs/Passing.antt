@@ -5,8 +5,8 @@ use Rattle.std.proofs.lemmas.List.Concat.{flat_map-append}
 use Rattle.std.specs.List.{flat_map}
 use Rattle.std.specs.Result.{IsErrAnd}
 use Rattle.std.specs.declared.option.Option.{Option}
-use Rattle.line_io.proofs.Flow.{appends-append, appends-nil}
-use Rattle.line_io.specs.Streams.{Stream, Cut}
+use Rattle.copy_sessions.proofs.line_io_lemmas.Flow.{appends-append, appends-nil}
+use Rattle.copy_sessions.specs.line_io.Streams.{Stream, Cut}
 use Rattle.outside.specs.Causes.{RoseBy}
 use Rattle.outside.specs.Streams.{appends}
 use Rattle.check_texts.specs.declared.error.PrintError.{PrintError}

@@ -2,9 +2,9 @@
 use Rattle.std.proofs.Common.{◌≡◌, ℕ, List, ◌++◌, inr, sym, ◌∙◌, ap, subst, append_assoc}
 use Rattle.std.specs.Prelude.{IfSome}
 use Rattle.std.specs.declared.option.Option.{Option}
-use Rattle.check_rules.specs.Certificates.{Owners}
-use Rattle.line_io.proofs.Flow.{appends-append}
-use Rattle.line_io.specs.Streams.{Cut}
+use Rattle.cryfs_check.specs.check_rules.Certificates.{Owners}
+use Rattle.copy_sessions.proofs.line_io_lemmas.Flow.{appends-append}
+use Rattle.copy_sessions.specs.line_io.Streams.{Cut}
 use Rattle.outside.specs.Causes.{RoseBy}
 use Rattle.outside.specs.Streams.{appends}
 use Rattle.run_status.specs.declared.status.Status.{Status}

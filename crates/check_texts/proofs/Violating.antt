@@ -4,7 +4,7 @@ use Rattle.std.specs.Prelude.{OnOk, OnErr}
 use Rattle.std.specs.Vec.{vec_capacity, vec_len}
 use Rattle.std.specs.declared.alloc.Global.{Global}
 use Rattle.std.specs.declared.vec.Vec.{Vec}
-use Rattle.script_text.specs.Appending.{Appends}
+use Rattle.copy_sessions.specs.script_text.Appending.{Appends}
 
 pub appended : {E : Type 0} (old new : Vec ℕ Global) (r : Result (Unit {0}) E) (text : List ℕ) → OnOk r (new.items ≡ old.items ++ text) → OnErr r (new.items ≡ old.items) → vec_capacity old ≤ vec_capacity new
     → OnErr r (vec_capacity old < vec_len old + length text) → vec_len old ≡ length old.items → Appends old new r text

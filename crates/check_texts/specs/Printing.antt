@@ -1,8 +1,8 @@
 -- A text that is printed in pieces.
 use Rattle.std.specs.Prelude.{◌≡◌, ℕ, List, [], ◌++◌, Result, Ok, Err}
 use Rattle.outside.specs.Streams.{appends}
-use Rattle.line_io.specs.Streams.{Stream, HasFailed, Cut}
-use Rattle.session_lines.specs.Driven.{IsUnfailed}
+use Rattle.copy_sessions.specs.line_io.Streams.{Stream, HasFailed, Cut}
+use Rattle.copy_sessions.specs.session_lines.Driven.{IsUnfailed}
 use Rattle.check_texts.specs.declared.error.PrintError.{PrintError}
 use Rattle.check_texts.specs.declared.error.PrintError.TheVariants.{Memory, Failed}
 

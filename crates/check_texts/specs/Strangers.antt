@@ -5,13 +5,13 @@ use Rattle.std.specs.List.Sorted.{IsPermutation, IsSorted}
 use Rattle.std.specs.Cmp.Lexicographic.{slice_cmp}
 use Rattle.std.specs.Ordering.{nat_cmp}
 use Rattle.std.specs.Str.{bytes_eq}
-use Rattle.check_rules.specs.Certificates.{Owners}
+use Rattle.cryfs_check.specs.check_rules.Certificates.{Owners}
 use Rattle.fs_model.specs.Tree.{Path}
-use Rattle.line_io.specs.Streams.{Stream}
+use Rattle.copy_sessions.specs.line_io.Streams.{Stream}
 use Rattle.listing.specs.FileTexts.{text_of_file}
 use Rattle.outside.specs.Trace.{config, block}
-use Rattle.script_text.specs.Texts.{escaped, line, word}
-use Rattle.store_api.specs.Content.{Id}
+use Rattle.copy_sessions.specs.script_text.Texts.{escaped, line, word}
+use Rattle.block_survey.specs.store_api.Content.{Id}
 use Rattle.check_texts.specs.declared.error.PrintError.{PrintError}
 use Rattle.check_texts.specs.Printing.{IsPrinted}
 

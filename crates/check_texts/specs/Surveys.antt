@@ -8,11 +8,11 @@ use Rattle.block_id.specs.declared.fail.Fail.TheVariants as fail
 use Rattle.block_survey.specs.declared.survey.Refused.{Refused}
 use Rattle.cryfs_check.specs.declared.checking.Checked.{Checked}
 use Rattle.cryfs_check.specs.declared.checking.Checked.TheVariants.{No}
-use Rattle.line_io.specs.Streams.{Stream, HasFailed, Cut, Untouched}
+use Rattle.copy_sessions.specs.line_io.Streams.{Stream, HasFailed, Cut, Untouched}
 use Rattle.outside.specs.Streams.{appends}
 use Rattle.run_status.specs.declared.status.Status.{Status}
 use Rattle.run_status.specs.declared.status.Status.TheVariants.{Violation, DirectoryFault, OutputFault, Memory}
-use Rattle.session_lines.specs.Driven.{IsUnfailed}
+use Rattle.copy_sessions.specs.session_lines.Driven.{IsUnfailed}
 use Rattle.check_texts.specs.Refusals.{survey_text}
 use Rattle.check_texts.specs.Telling.{IsTold}
 

@@ -3,17 +3,17 @@ use Rattle.std.specs.Prelude.{◌≡◌, ◌≢◌, ◌⊎◌, ◌≤◌, ℕ, L
 use Rattle.std.specs.declared.option.Option.{Option}
 use Rattle.block_id.specs.declared.fail.Fail.{Fail}
 use Rattle.block_id.specs.declared.fail.Fail.TheVariants as fail
-use Rattle.check_rules.specs.Certificates.{Owners}
+use Rattle.cryfs_check.specs.check_rules.Certificates.{Owners}
 use Rattle.cryfs_check.specs.declared.checking.Checked.{Checked}
 use Rattle.cryfs_check.specs.declared.checking.Checked.TheVariants.{Yes, No}
-use Rattle.line_io.specs.Streams.{Stream, HasFailed, Cut, Untouched}
+use Rattle.copy_sessions.specs.line_io.Streams.{Stream, HasFailed, Cut, Untouched}
 use Rattle.outside.specs.Causes.{RoseBy}
 use Rattle.outside.specs.Streams.{appends}
 use Rattle.outside.specs.Trace.{Call}
 use Rattle.run_status.specs.declared.status.Status.{Status}
 use Rattle.run_status.specs.declared.status.Status.TheVariants.{Done, Violation, DirectoryFault, OutputFault, Memory}
-use Rattle.session_lines.specs.declared.end.End.{End}
-use Rattle.session_lines.specs.Driven.{IsUnfailed, Reported}
+use Rattle.copy_sessions.specs.session_lines.declared.end.End.{End}
+use Rattle.copy_sessions.specs.session_lines.Driven.{IsUnfailed, Reported}
 use Rattle.check_texts.specs.declared.error.PrintError.{PrintError}
 use Rattle.check_texts.specs.declared.error.PrintError.TheVariants as print_error
 use Rattle.check_texts.specs.Strangers.{IsInOrder, strangers_text}

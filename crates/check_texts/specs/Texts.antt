@@ -4,18 +4,18 @@ use Rattle.std.specs.Fmt.{decimal}
 use Rattle.std.specs.List.{flat_map}
 use Rattle.std.specs.declared.option.Option.{Option}
 use Rattle.std.specs.declared.option.Option.TheVariants.{None, Some}
-use Rattle.answers.specs.Texts.{text_of_answer}
-use Rattle.answers.specs.declared.answer.Answer.TheVariants.{Violation}
+use Rattle.copy_sessions.specs.answers.Texts.{text_of_answer}
+use Rattle.copy_sessions.specs.answers.declared.answer.Answer.TheVariants.{Violation}
 use Rattle.block_id.specs.Name.{name_of}
 use Rattle.block_id.specs.declared.id.BlockId.{BlockId}
 use Rattle.block_id.specs.declared.fail.Why.{Why}
-use Rattle.block_walk.specs.declared.flaw.Flaw.{Flaw}
-use Rattle.block_walk.specs.declared.flaw.Flaw.TheVariants.{BadNode, BadBlob, Parent, Twice, NotLive, Unowned}
-use Rattle.check_rules.specs.Certificates.{Owners}
+use Rattle.block_survey.specs.block_walk.declared.flaw.Flaw.{Flaw}
+use Rattle.block_survey.specs.block_walk.declared.flaw.Flaw.TheVariants.{BadNode, BadBlob, Parent, Twice, NotLive, Unowned}
+use Rattle.cryfs_check.specs.check_rules.Certificates.{Owners}
 use Rattle.copy_sessions.specs.Texts.{path_text}
 use Rattle.fs_model.specs.Tree.{Path}
-use Rattle.script_text.specs.Texts.{line, word}
-use Rattle.store_api.specs.Content.{Id}
+use Rattle.copy_sessions.specs.script_text.Texts.{line, word}
+use Rattle.block_survey.specs.store_api.Content.{Id}
 
 -- ---- of blocks that have their owners
 

@@ -1,20 +1,20 @@
 // What is wrong, as a line.
 ghost use Rattle.std.specs.Prelude.{◌≡◌, ◌≤◌, ◌++◌, [], codes, length, OnErr};
-ghost use Rattle.line_io.specs.Streams.{stream_of};
-ghost use Rattle.script_text.specs.Appending.{Appends};
-ghost use Rattle.script_text.specs.Texts.{line, word};
+ghost use Rattle.copy_sessions.specs.line_io.Streams.{stream_of};
+ghost use Rattle.copy_sessions.specs.script_text.Appending.{Appends};
+ghost use Rattle.copy_sessions.specs.script_text.Texts.{line, word};
 ghost use Rattle.block_id.specs.Name.{name_of};
 ghost use Rattle.check_texts.specs.Texts.{flaw_text, violation_text};
-ghost use Rattle.session_lines.specs.Driven.{Reported};
+ghost use Rattle.copy_sessions.specs.session_lines.Driven.{Reported};
 
 use crate::page::Page;
-use answers::{Answer, print_answer};
 use block_id::{BlockId, Failed, Memory, Why};
-use block_walk::Flaw;
-use line_io::write_all;
+use block_survey::block_walk::Flaw;
+use copy_sessions::answers::{Answer, print_answer};
+use copy_sessions::line_io::write_all;
+use copy_sessions::script_text::push_bytes;
+use copy_sessions::session_lines::End;
 use outside::Sink;
-use script_text::push_bytes;
-use session_lines::End;
 
 /// Prints the line of a flaw.
 pub fn print_flaw<O: Sink>(flaw: &Flaw, page: &mut Page, output: &mut O) -> End

@@ -14,3 +14,6 @@ mod telling;
 pub use page::{FULL_PAGE, Page};
 pub use surveys::tell_survey;
 pub use telling::tell_verdict;
+
+// Handed on to crates above, which needn't list them.
+pub use listing;

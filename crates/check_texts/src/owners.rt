@@ -1,8 +1,8 @@
 // The owners of blocks, as lines.
 ghost use Rattle.std.specs.Prelude.{◌≡◌, ◌≤◌, [], length};
 ghost use Rattle.std.specs.List.{flat_map, slice_get};
-ghost use Rattle.line_io.specs.Streams.{stream_of};
-ghost use Rattle.script_text.specs.Appending.{Appends};
+ghost use Rattle.copy_sessions.specs.line_io.Streams.{stream_of};
+ghost use Rattle.copy_sessions.specs.script_text.Appending.{Appends};
 ghost use Rattle.check_texts.specs.Printing.{Prints, IsPrinted};
 ghost use Rattle.check_texts.specs.Texts.{block_text, count_text, owner_text, owner_text_at, owners_text};
 
@@ -10,10 +10,10 @@ use crate::error::PrintError;
 use crate::page::Page;
 use block_id::{BlockId, Memory};
 use copy_sessions::push_path;
+use copy_sessions::script_text::{push_bytes, push_decimal};
 use cryfs_check::Owners;
 use fs_model::Path;
 use outside::Sink;
-use script_text::{push_bytes, push_decimal};
 use std::alloc::Global;
 
 /// Prints how many blocks there are, and then each with the path that owns it.

@@ -1,11 +1,11 @@
 // Text that waits to be written.
 ghost use Rattle.std.specs.Prelude.{◌≡◌, ◌≤◌, ℕ, List, [], vec_capacity, IfOk};
-ghost use Rattle.line_io.specs.Streams.{stream_of};
+ghost use Rattle.copy_sessions.specs.line_io.Streams.{stream_of};
 ghost use Rattle.check_texts.specs.Printing.{Prints};
 
 use crate::error::PrintError;
 use block_id::Memory;
-use line_io::write_all;
+use copy_sessions::line_io::write_all;
 use outside::Sink;
 use std::alloc::Global;
 use std::marker::Model;

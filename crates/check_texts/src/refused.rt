@@ -1,8 +1,8 @@
 // The blocks that are refused, as lines.
 ghost use Rattle.std.specs.Prelude.{◌≡◌, ◌≤◌, [], length};
 ghost use Rattle.std.specs.List.{flat_map};
-ghost use Rattle.line_io.specs.Streams.{stream_of};
-ghost use Rattle.script_text.specs.Appending.{Appends};
+ghost use Rattle.copy_sessions.specs.line_io.Streams.{stream_of};
+ghost use Rattle.copy_sessions.specs.script_text.Appending.{Appends};
 ghost use Rattle.check_texts.specs.Printing.{Prints, IsPrinted};
 ghost use Rattle.check_texts.specs.Refusals.{bad_text, place_text, refused_line, survey_text, total_text, where_text};
 ghost use Rattle.check_texts.specs.Texts.{violation_text};
@@ -10,14 +10,14 @@ ghost use Rattle.check_texts.specs.Texts.{violation_text};
 use crate::error::PrintError;
 use crate::flaws::push_flaw;
 use crate::page::Page;
-use answers::{Answer, print_answer};
 use block_id::{BlockId, Fail, Memory, Why};
 use block_survey::Refused;
+use copy_sessions::answers::{Answer, print_answer};
 use copy_sessions::push_path;
+use copy_sessions::script_text::{push_bytes, push_decimal};
 use cryfs_check::Checked;
 use fs_model::Path;
 use outside::Sink;
-use script_text::{push_bytes, push_decimal};
 
 /// Prints the line of a flaw or a violation, then each refused block with its path, and how many they are.
 pub fn print_survey<O: Sink>(

@@ -5,8 +5,8 @@ ghost use Rattle.std.specs.List.Sorted.{IsSorted};
 ghost use Rattle.std.specs.Ordering.{nat_cmp};
 ghost use Rattle.std.specs.Cmp.Lexicographic.{slice_cmp};
 ghost use Rattle.std.specs.Str.{bytes_eq};
-ghost use Rattle.line_io.specs.Streams.{stream_of};
-ghost use Rattle.script_text.specs.Appending.{Appends};
+ghost use Rattle.copy_sessions.specs.line_io.Streams.{stream_of};
+ghost use Rattle.copy_sessions.specs.script_text.Appending.{Appends};
 ghost use Rattle.check_texts.specs.Printing.{Prints};
 ghost use Rattle.check_texts.specs.Strangers.{ArePrinted, IsInOrder, block_file, file_names, line_beside, stranger_text};
 
@@ -14,10 +14,10 @@ use crate::error::PrintError;
 use crate::page::Page;
 use block_id::Memory;
 use copy_sessions::push_escaped;
+use copy_sessions::script_text::push_bytes;
 use cryfs_check::Owners;
 use listing::{ByteLine, file_text};
 use outside::{FileName, Sink};
-use script_text::push_bytes;
 use std::alloc::Global;
 
 /// Prints each of these names that is neither the configuration's nor that of a live block, in the order of their bytes.

@@ -1,6 +1,6 @@
 // What a survey found, told.
 ghost use Rattle.std.specs.Prelude.{◌≡◌, ◌≤◌, []};
-ghost use Rattle.line_io.specs.Streams.{stream_of};
+ghost use Rattle.copy_sessions.specs.line_io.Streams.{stream_of};
 ghost use Rattle.check_texts.specs.Surveys.{AreRefusedTold, IsSurveyTold, status_of_fail};
 ghost use Rattle.check_texts.specs.Telling.{ListsAfter};
 

@@ -1,6 +1,6 @@
 // What a check found, told.
 ghost use Rattle.std.specs.Prelude.{◌≡◌, ◌≤◌, []};
-ghost use Rattle.line_io.specs.Streams.{stream_of};
+ghost use Rattle.copy_sessions.specs.line_io.Streams.{stream_of};
 ghost use Rattle.check_texts.specs.Telling.{AreOwnersTold, IsTold, Lists, ListsAfter, status_of};
 
 use crate::error::PrintError;

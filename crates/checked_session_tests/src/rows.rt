@@ -1,8 +1,8 @@
 // What a check prints and ends with, and what it leaves to later runs.
 
-use listing::ByteLine;
 use std::alloc::Global;
 use std::test::Fail;
+use test_systems::listing::ByteLine;
 use test_systems::{
     Run, Status, System, ask, block, copy_files, file, first_made, new_system, plain, play, store,
     take,

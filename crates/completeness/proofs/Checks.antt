@@ -5,19 +5,19 @@ use Rattle.std.specs.declared.option.Option.{Option}
 use Rattle.std.specs.declared.result.Result.TheVariants.{Ok, Err}
 use Rattle.block_id.specs.declared.fail.Fail.{Fail}
 use Rattle.block_id.specs.declared.fail.Fail.TheVariants as fail
-use Rattle.check_rules.specs.Certificates.{Owners}
+use Rattle.check_runs.specs.check_rules.Certificates.{Owners}
 use Rattle.check_runs.proofs.Leaving.{examined_run, stay_open, same_calls}
 use Rattle.check_runs.specs.Judging.{is_bad, held_for, IsProven}
 use Rattle.check_runs.specs.Running.{RanCheck, IsCheckTold}
-use Rattle.check_texts.specs.Telling.{AreOwnersTold, IsTold, ListsAfter}
-use Rattle.config_file.specs.Settings.{Settings, settings_of}
-use Rattle.cryfs_check.specs.Checks.{OnYes}
-use Rattle.cryfs_check.specs.declared.checking.Checked.{Checked}
-use Rattle.cryfs_check.specs.declared.checking.Checked.TheVariants.{Yes, No}
+use Rattle.check_runs.specs.check_texts.Telling.{AreOwnersTold, IsTold, ListsAfter}
+use Rattle.histories.specs.config_file.Settings.{Settings, settings_of}
+use Rattle.check_runs.specs.cryfs_check.Checks.{OnYes}
+use Rattle.check_runs.specs.cryfs_check.declared.checking.Checked.{Checked}
+use Rattle.check_runs.specs.cryfs_check.declared.checking.Checked.TheVariants.{Yes, No}
 use Rattle.fs_model.specs.Tree.{Tree}
-use Rattle.line_io.specs.Lines.{first_line}
-use Rattle.line_io.specs.Streams.{Stream}
-use Rattle.check_runs.proofs.mount.Reading.{represents_told}
+use Rattle.file_copies.specs.line_io.Lines.{first_line}
+use Rattle.file_copies.specs.line_io.Streams.{Stream}
+use Rattle.check_runs.proofs.mount_lemmas.Reading.{represents_told}
 use Rattle.check_runs.specs.mount_tower.Identities.{HasEmptyList}
 use Rattle.outside.specs.Causes.{RoseBy}
 use Rattle.outside.specs.Trace.{Call}

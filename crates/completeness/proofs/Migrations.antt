@@ -3,13 +3,13 @@ use Rattle.std.proofs.Common.{◌≡◌, ◌∙◌, ◌+◌, ℕ, false, List, r
 use Rattle.std.specs.Prelude.{Result, IfOk, IsOk, OnOk}
 use Rattle.std.specs.declared.option.Option.{Option}
 use Rattle.std.specs.declared.result.Result.TheVariants.{Ok, Err}
-use Rattle.answers.specs.Sessions.{is_violation, directory_faults, state_faults}
-use Rattle.config_file.specs.Settings.{Settings}
+use Rattle.file_copies.specs.answers.Sessions.{is_violation, directory_faults, state_faults}
+use Rattle.histories.specs.config_file.Settings.{Settings}
 use Rattle.check_runs.specs.cryfs_setup.Migrate.{RanMigrate, IsMigrated, IsCount, IsSpentIn}
 use Rattle.fs_model.specs.Tree.{Tree}
-use Rattle.line_io.specs.Lines.{first_line}
-use Rattle.line_io.specs.Streams.{Stream}
-use Rattle.check_runs.proofs.mount.Reading.{represents_told}
+use Rattle.file_copies.specs.line_io.Lines.{first_line}
+use Rattle.file_copies.specs.line_io.Streams.{Stream}
+use Rattle.check_runs.proofs.mount_lemmas.Reading.{represents_told}
 use Rattle.check_runs.specs.mount_calls.Migrating.{KeepsNewest}
 use Rattle.check_runs.specs.mount_core.Answers.{OnSpent}
 use Rattle.check_runs.specs.mount_migrating.Migrating.{told}
@@ -19,15 +19,15 @@ use Rattle.check_runs.specs.mount_tower.Identities.{HasEmptyList}
 use Rattle.outside.specs.Causes.{RoseBy}
 use Rattle.outside.specs.Trace.{Call}
 use Rattle.outside.specs.declared.keeper.Keeper.{Ghosts as KeeperGhosts}
-use Rattle.run_edges.specs.Statuses.{session_status}
+use Rattle.shell_sessions.specs.run_edges.Statuses.{session_status}
 use Rattle.run_status.specs.declared.ended.Ended.{Ended}
-use Rattle.session_lines.specs.Driven.{Reported}
-use Rattle.session_lines.specs.declared.end.End.{End}
-use Rattle.session_lines.specs.declared.end.End.TheVariants.{Finished, InputFault, OutputFault}
+use Rattle.file_copies.specs.session_lines.Driven.{Reported}
+use Rattle.file_copies.specs.session_lines.declared.end.End.{End}
+use Rattle.file_copies.specs.session_lines.declared.end.End.TheVariants.{Finished, InputFault, OutputFault}
 use Rattle.check_runs.specs.session_runs.Openings.{IsUnopened}
 use Rattle.check_runs.specs.session_runs.Runs.{Outside, outside_of, OpensTo, IsFounded, directory_fault, state_fault}
-use Rattle.session_saver.specs.declared.saver.SyncError.{SyncError}
-use Rattle.session_saver.specs.declared.saver.SyncError.TheVariants as sync_error
+use Rattle.shell_sessions.specs.session_saver.declared.saver.SyncError.{SyncError}
+use Rattle.shell_sessions.specs.session_saver.declared.saver.SyncError.TheVariants as sync_error
 use Rattle.check_runs.specs.setup_texts.MigrateText.{migrated_text}
 use Rattle.check_runs.specs.mount_core.Showing.{ShowsFiles}
 use Rattle.completeness.specs.Migrations.{Migrates}

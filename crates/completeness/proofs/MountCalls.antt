@@ -3,16 +3,16 @@ use Rattle.std.proofs.Common.{◌≡◌, ◌⊎◌, ◌≤◌, ◌∙◌, ◌-�
 use Rattle.std.specs.Prelude.{Result, OnOk, IfOk, IsErrOf, is_some}
 use Rattle.std.specs.declared.option.Option.{Option}
 use Rattle.std.specs.declared.result.Result.TheVariants.{Ok, Err}
-use Rattle.answers.specs.Sessions.{is_violation, directory_faults, state_faults}
-use Rattle.config_file.specs.ConfigOf.{IsOnly, opened}
-use Rattle.config_file.specs.Settings.{Settings, settings_of}
-use Rattle.config_file.specs.declared.error.ConfigError.TheVariants as config_error
+use Rattle.file_copies.specs.answers.Sessions.{is_violation, directory_faults, state_faults}
+use Rattle.histories.specs.config_file.ConfigOf.{IsOnly, opened}
+use Rattle.histories.specs.config_file.Settings.{Settings, settings_of}
+use Rattle.histories.specs.config_file.declared.error.ConfigError.TheVariants as config_error
 use Rattle.fs_model.specs.Tree.{Tree}
-use Rattle.held_blocks.specs.Standing.{records}
-use Rattle.held_blocks.specs.StoreLaws.{sound_is_told}
+use Rattle.histories.specs.held_blocks.Standing.{records}
+use Rattle.histories.specs.held_blocks.StoreLaws.{sound_is_told}
 use Rattle.histories.proofs.Configuration.{opened_only, only_config}
-use Rattle.check_runs.proofs.mount.Reading.{represents_told}
-use Rattle.check_runs.proofs.mount.Standing.{represents}
+use Rattle.check_runs.proofs.mount_lemmas.Reading.{represents_told}
+use Rattle.check_runs.proofs.mount_lemmas.Standing.{represents}
 use Rattle.check_runs.specs.mount.Answering.{store_of, calls_of, vault_faults, keeper_faults, kept_of}
 use Rattle.check_runs.specs.mount.Mounts.{MountClosed}
 use Rattle.check_runs.specs.mount.Representing.{Represents}
@@ -26,7 +26,7 @@ use Rattle.check_runs.specs.mount_core.Standing.{Left, Synced}
 use Rattle.check_runs.specs.mount_migrating.Migrating.{told, IsSpentAmong}
 use Rattle.check_runs.specs.mount_migrating.declared.error.MigrateError.{MigrateError}
 use Rattle.check_runs.specs.mount_migrating.declared.error.MigrateError.TheVariants as migrate_error
-use Rattle.check_runs.proofs.mount_tower.Reading.{only_unforged}
+use Rattle.check_runs.proofs.mount_tower_lemmas.Reading.{only_unforged}
 use Rattle.check_runs.specs.mount_tower.Identities.{HasEmptyList}
 use Rattle.check_runs.specs.mount_tower.Tower.{held_in, tower_holdings}
 use Rattle.check_runs.specs.mount_tower.Unforged.{IsOnlyConfig}
@@ -35,15 +35,15 @@ use Rattle.check_runs.specs.mount_tower.declared.error.OpenError.TheVariants as 
 use Rattle.outside.specs.Causes.{RoseBy}
 use Rattle.outside.specs.Trace.{Call}
 use Rattle.outside.specs.declared.keeper.Keeper.{Ghosts as KeeperGhosts}
-use Rattle.run_edges.specs.Statuses.{opening_status}
+use Rattle.shell_sessions.specs.run_edges.Statuses.{opening_status}
 use Rattle.run_status.specs.declared.status.Status.TheVariants.{Memory}
-use Rattle.check_runs.proofs.session_runs.Whole.{only_one}
+use Rattle.check_runs.proofs.session_runs_lemmas.Whole.{only_one}
 use Rattle.check_runs.specs.session_runs.Runs.{Outside, outside_of, PasswordOpens, lies}
 use Rattle.check_runs.specs.session_runs.Turns.{Begun}
-use Rattle.session_saver.specs.Saving.{KeptConfigures}
-use Rattle.session_saver.specs.declared.saver.SyncError.{SyncError}
-use Rattle.session_saver.specs.declared.saver.SyncError.TheVariants as sync_error
-use Rattle.store_api.specs.Durables.{Identity}
+use Rattle.shell_sessions.specs.session_saver.Saving.{KeptConfigures}
+use Rattle.shell_sessions.specs.session_saver.declared.saver.SyncError.{SyncError}
+use Rattle.shell_sessions.specs.session_saver.declared.saver.SyncError.TheVariants as sync_error
+use Rattle.file_copies.specs.store_api.Durables.{Identity}
 use Rattle.check_runs.specs.mount_core.Showing.{ShowsFiles}
 use Rattle.completeness.specs.Calls.{IsUnfailed, moment_of, Attaches, left_by, WantsMemory, AttachEnds, SyncEnds, CloseEnds, AnewEnds}
 use Rattle.completeness.specs.Mounts.{MountStands, MountUntroubled}

@@ -2,8 +2,8 @@
 use Rattle.std.proofs.Common.{◌≡◌, ◌∙◌, ◌||◌, ℕ, Bool, true, false, List, refl, sym, ap, subst, inl, inr}
 use Rattle.std.specs.Prelude.{IfOk}
 use Rattle.std.specs.declared.option.Option.{Option}
-use Rattle.answers.specs.Sessions.{Asked, FollowsAsked, is_violation, is_synced}
-use Rattle.answers.specs.declared.answer.Answer.{Answer}
+use Rattle.file_copies.specs.answers.Sessions.{Asked, FollowsAsked, is_violation, is_synced}
+use Rattle.file_copies.specs.answers.declared.answer.Answer.{Answer}
 use Rattle.fs_model.specs.Instant.{Instant}
 use Rattle.fs_model.specs.Tree.{Tree}
 use Rattle.check_runs.specs.mount_tower.Tower.{tower_holdings}

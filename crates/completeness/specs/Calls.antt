@@ -2,8 +2,8 @@
 use Rattle.std.specs.Prelude.{◌≡◌, ◌⊎◌, ◌≤◌, ℕ, false, List, Result, OnOk}
 use Rattle.std.specs.declared.option.Option.{Option}
 use Rattle.std.specs.declared.result.Result.TheVariants.{Ok, Err}
-use Rattle.config_file.specs.Settings.{Settings, settings_of}
-use Rattle.config_file.specs.declared.error.ConfigError.TheVariants as config_error
+use Rattle.histories.specs.config_file.Settings.{Settings, settings_of}
+use Rattle.histories.specs.config_file.declared.error.ConfigError.TheVariants as config_error
 use Rattle.fs_model.specs.Tree.{Tree}
 use Rattle.check_runs.specs.mount.Answering.{store_of, kept_of}
 use Rattle.check_runs.specs.mount.Mounts.{Unopened}
@@ -23,8 +23,8 @@ use Rattle.outside.specs.Trace.{Call}
 use Rattle.outside.specs.declared.keeper.Keeper.{Ghosts as KeeperGhosts}
 use Rattle.check_runs.specs.session_runs.Runs.{Outside, outside_of, OutsideStandsFor, PasswordOpens, lies}
 use Rattle.check_runs.specs.session_runs.Turns.{Begun}
-use Rattle.session_saver.specs.declared.saver.SyncError.{SyncError}
-use Rattle.session_saver.specs.declared.saver.SyncError.TheVariants as sync_error
+use Rattle.shell_sessions.specs.session_saver.declared.saver.SyncError.{SyncError}
+use Rattle.shell_sessions.specs.session_saver.declared.saver.SyncError.TheVariants as sync_error
 use Rattle.check_runs.specs.mount_core.Showing.{ShowsFiles}
 use Rattle.completeness.specs.Mounts.{MountStands, MountUntroubled}
 use Rattle.completeness.specs.Premises.{Leaves}

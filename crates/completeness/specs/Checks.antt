@@ -1,15 +1,15 @@
 -- What `check` does where nothing lies and nothing fails.
 use Rattle.std.specs.Prelude.{◌≡◌, ◌⊎◌, ℕ, List}
 use Rattle.std.specs.declared.option.Option.{Option}
-use Rattle.check_rules.specs.Certificates.{Owners}
+use Rattle.check_runs.specs.check_rules.Certificates.{Owners}
 use Rattle.check_runs.specs.Judging.{held_for, IsProven}
 use Rattle.check_runs.specs.Running.{RanCheck}
-use Rattle.check_texts.specs.Telling.{IsListed, yes_text}
-use Rattle.config_file.specs.Settings.{Settings}
+use Rattle.check_runs.specs.check_texts.Telling.{IsListed, yes_text}
+use Rattle.histories.specs.config_file.Settings.{Settings}
 use Rattle.fs_model.specs.Tree.{Tree}
-use Rattle.line_io.specs.Lines.{first_line}
-use Rattle.line_io.specs.Streams.{Stream}
-use Rattle.local_state.specs.Record.{PlainState}
+use Rattle.file_copies.specs.line_io.Lines.{first_line}
+use Rattle.file_copies.specs.line_io.Streams.{Stream}
+use Rattle.histories.specs.local_state.Record.{PlainState}
 use Rattle.check_runs.specs.mount_tower.Opening.{IsLoaded}
 use Rattle.outside.specs.Changes.{FileChanges}
 use Rattle.outside.specs.Trace.{Call}

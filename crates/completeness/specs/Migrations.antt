@@ -1,14 +1,14 @@
 -- What `migrate` does where nothing lies and nothing fails.
 use Rattle.std.specs.Prelude.{◌⊎◌, ℕ, List}
 use Rattle.std.specs.declared.option.Option.{Option}
-use Rattle.answers.specs.Texts.{text_of_answer}
-use Rattle.answers.specs.declared.answer.Answer.TheVariants as answer
-use Rattle.config_file.specs.Settings.{Settings}
+use Rattle.file_copies.specs.answers.Texts.{text_of_answer}
+use Rattle.file_copies.specs.answers.declared.answer.Answer.TheVariants as answer
+use Rattle.histories.specs.config_file.Settings.{Settings}
 use Rattle.check_runs.specs.cryfs_setup.Migrate.{RanMigrate, IsCount, IsSpentIn}
 use Rattle.fs_model.specs.Tree.{Tree}
-use Rattle.line_io.specs.Lines.{first_line}
-use Rattle.line_io.specs.Streams.{Stream}
-use Rattle.local_state.specs.Record.{PlainState}
+use Rattle.file_copies.specs.line_io.Lines.{first_line}
+use Rattle.file_copies.specs.line_io.Streams.{Stream}
+use Rattle.histories.specs.local_state.Record.{PlainState}
 use Rattle.check_runs.specs.mount_calls.Migrating.{KeepsNewest}
 use Rattle.check_runs.specs.mount_tower.Opening.{IsLoaded}
 use Rattle.outside.specs.Changes.{FileChanges}

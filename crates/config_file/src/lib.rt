@@ -15,3 +15,6 @@ pub use error::ConfigError;
 pub use format::FILE_LEN;
 pub use open::open_config;
 pub use seal::{SealDraws, seal_config};
+
+// Handed on to crates above, which needn't list them.
+pub use aes_gcm;

@@ -10,3 +10,6 @@ pub use copied::{CopyFail, Totals};
 pub use law::{
     copy_is_same, done_import_merges, export_is_part, export_is_same, import_is_same, import_merges,
 };
+
+// Handed on to crates above, which needn't list them.
+pub use host_folder;

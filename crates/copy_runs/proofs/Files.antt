@@ -3,17 +3,17 @@ use Rattle.std.proofs.Common.{sym, subst}
 use Rattle.std.specs.declared.option.Option.{Option}
 use Rattle.std.specs.declared.result.Result.{Result}
 use Rattle.std.specs.declared.result.Result.TheVariants.{Ok, Err}
-use Rattle.answers.specs.declared.answer.Answer.{Answer}
-use Rattle.line_io.specs.Streams.{Stream}
-use Rattle.run_edges.specs.Statuses.{IsOwn}
+use Rattle.file_copies.specs.answers.declared.answer.Answer.{Answer}
+use Rattle.file_copies.specs.line_io.Streams.{Stream}
+use Rattle.shell_sessions.specs.run_edges.Statuses.{IsOwn}
 use Rattle.run_status.specs.declared.status.Status.{Status}
-use Rattle.session_lines.specs.declared.end.End.{End}
-use Rattle.host_folder.specs.Folders.{HostPath}
-use Rattle.copy_rules.specs.declared.copied.Totals.{Totals}
-use Rattle.copy_rules.specs.declared.copied.CopyFail.TheVariants as fail
-use Rattle.copy_sessions.specs.declared.way.Way.TheVariants.{In}
-use Rattle.row_copy.specs.declared.stop.Stop.{Stop}
-use Rattle.row_copy.specs.declared.stop.Stop.TheVariants as stop
+use Rattle.file_copies.specs.session_lines.declared.end.End.{End}
+use Rattle.tree_copy.specs.host_folder.Folders.{HostPath}
+use Rattle.tree_copy.specs.copy_rules.declared.copied.Totals.{Totals}
+use Rattle.tree_copy.specs.copy_rules.declared.copied.CopyFail.TheVariants as fail
+use Rattle.file_copies.specs.copy_sessions.declared.way.Way.TheVariants.{In}
+use Rattle.tree_copy.specs.row_copy.declared.stop.Stop.{Stop}
+use Rattle.tree_copy.specs.row_copy.declared.stop.Stop.TheVariants as stop
 use Rattle.file_copies.specs.Coming.{IsPutTold, IsGetEnd}
 use Rattle.copy_runs.proofs.Serving.{is_own, mild_stop}
 

@@ -1,30 +1,30 @@
 // Imports under the password line of the input.
 ghost use Rattle.std.specs.Prelude.{◌≡◌, ◌⊎◌, ◌≤◌, List};
-ghost use Rattle.line_io.specs.Streams.{stream_of, Stream};
-ghost use Rattle.answers.specs.Hosts.{Ran};
-ghost use Rattle.answers.specs.Sessions.{Exchange};
-ghost use Rattle.session_lines.specs.Driven.{IsUnfailed};
-ghost use Rattle.mount.specs.Mounts.{IsReady};
-ghost use Rattle.run_edges.specs.Statuses.{IsOwn};
-ghost use Rattle.session_runs.specs.Drawing.{DrawsVectors};
-ghost use Rattle.session_runs.specs.Runs.{outside_of};
+ghost use Rattle.file_copies.specs.line_io.Streams.{stream_of, Stream};
+ghost use Rattle.file_copies.specs.answers.Hosts.{Ran};
+ghost use Rattle.file_copies.specs.answers.Sessions.{Exchange};
+ghost use Rattle.file_copies.specs.session_lines.Driven.{IsUnfailed};
+ghost use Rattle.shell_sessions.specs.mount.Mounts.{IsReady};
+ghost use Rattle.shell_sessions.specs.run_edges.Statuses.{IsOwn};
+ghost use Rattle.shell_sessions.specs.session_runs.Drawing.{DrawsVectors};
+ghost use Rattle.shell_sessions.specs.session_runs.Runs.{outside_of};
 ghost use Rattle.shell_sessions.specs.Mounting.{mounted_hosting};
 ghost use Rattle.shell_sessions.specs.Sessions.{Session, WasServed};
-ghost use Rattle.copy_sessions.specs.Coming.{ComesImport, IsImportSession};
+ghost use Rattle.file_copies.specs.copy_sessions.Coming.{ComesImport, IsImportSession};
 ghost use Rattle.copy_runs.specs.Asking.{IsFresh};
 
 use crate::asker::MountAsker;
 use crate::beginning::{CopyBeginning, begin_copy};
 use crate::request::CopyRequest;
-use copy_sessions::{CopyText, Way, tell_copy};
+use file_copies::copy_sessions::{CopyText, Way, tell_copy};
+use file_copies::session_lines::End;
 use fs_model::Path;
-use host_folder::Folder;
 use outside::{Keeper, Sink, Source, Vault};
 use rand_core::Rng;
 use run_status::{Ended, Status, Storage};
-use session_lines::End;
 use shell_sessions::{Mounted, close, open};
 use std::alloc::Global;
+use tree_copy::host_folder::Folder;
 use tree_copy::import;
 
 /// Imports the folder below the target, and prints how that ended.

@@ -1,14 +1,14 @@
 // A file that is put under the password line of the input.
 ghost use Rattle.std.specs.Prelude.{◌≡◌, ◌≤◌, true, List};
 ghost use Rattle.outside.specs.Streams.{Ends};
-ghost use Rattle.line_io.specs.Reading.{coming};
-ghost use Rattle.line_io.specs.Streams.{stream_of};
-ghost use Rattle.answers.specs.Hosts.{Ran};
-ghost use Rattle.answers.specs.Sessions.{Exchange};
-ghost use Rattle.mount.specs.Mounts.{IsReady};
-ghost use Rattle.run_edges.specs.Statuses.{IsOwn};
-ghost use Rattle.session_runs.specs.Drawing.{DrawsVectors};
-ghost use Rattle.session_runs.specs.Runs.{outside_of};
+ghost use Rattle.file_copies.specs.line_io.Reading.{coming};
+ghost use Rattle.file_copies.specs.line_io.Streams.{stream_of};
+ghost use Rattle.file_copies.specs.answers.Hosts.{Ran};
+ghost use Rattle.file_copies.specs.answers.Sessions.{Exchange};
+ghost use Rattle.shell_sessions.specs.mount.Mounts.{IsReady};
+ghost use Rattle.shell_sessions.specs.run_edges.Statuses.{IsOwn};
+ghost use Rattle.shell_sessions.specs.session_runs.Drawing.{DrawsVectors};
+ghost use Rattle.shell_sessions.specs.session_runs.Runs.{outside_of};
 ghost use Rattle.shell_sessions.specs.Mounting.{mounted_hosting};
 ghost use Rattle.shell_sessions.specs.Sessions.{Session};
 ghost use Rattle.file_copies.specs.Coming.{ComesPut, IsPutSession};
@@ -16,14 +16,14 @@ ghost use Rattle.copy_runs.specs.Asking.{IsFresh};
 
 use crate::asker::MountAsker;
 use crate::beginning::{CopyBeginning, begin_copy};
-use copy_sessions::CopyText;
+use file_copies::copy_sessions::CopyText;
+use file_copies::line_io::LineReader;
+use file_copies::session_lines::End;
 use file_copies::{put_file, tell_put};
 use fs_model::{Moment, Path};
-use line_io::LineReader;
 use outside::{Keeper, Sink, Source, Vault};
 use rand_core::Rng;
 use run_status::{Ended, Status, Storage};
-use session_lines::End;
 use shell_sessions::{Mounted, close, open};
 use std::alloc::Global;
 

@@ -2,9 +2,9 @@
 
 use crate::rows::{play_anew_beside, play_imported_beside};
 use folder_samples::{has_rows, holds, leads};
-use memory_folder::MemoryFolder;
 use std::alloc::Global;
 use std::test::Fail;
+use test_systems::memory_folder::MemoryFolder;
 
 const ONCE: &str = "> export|/
 pw

@@ -1,9 +1,9 @@
 // Runs beside a folder, as rows of text.
 
 use folder_samples::fills_small;
-use memory_folder::MemoryFolder;
 use std::alloc::Global;
 use std::test::Fail;
+use test_systems::memory_folder::MemoryFolder;
 use test_systems::{System, new_system, play_beside};
 
 /// The runs of the rows over a new file system.

@@ -4,16 +4,16 @@ use Rattle.std.specs.declared.option.Option.{Option}
 use Rattle.std.specs.declared.option.Option.TheVariants.{None}
 use Rattle.std.specs.declared.result.Result.{Result}
 use Rattle.fs_model.specs.Instant.{Instant}
-use Rattle.answers.specs.declared.answer.Answer.{Answer}
-use Rattle.answers.specs.Sessions.{Exchange}
-use Rattle.answers.specs.Hosts.{Hosting}
-use Rattle.line_io.specs.Streams.{Stream}
+use Rattle.session_lines.specs.answers.declared.answer.Answer.{Answer}
+use Rattle.session_lines.specs.answers.Sessions.{Exchange}
+use Rattle.session_lines.specs.answers.Hosts.{Hosting}
+use Rattle.session_lines.specs.line_io.Streams.{Stream}
 use Rattle.session_lines.specs.Driven.{IsUnfailed}
 use Rattle.session_lines.specs.declared.end.End.{End}
 use Rattle.outside.specs.Causes.{RoseBy}
 use Rattle.run_status.specs.declared.status.Status.{Status}
 use Rattle.run_status.specs.declared.status.Status.TheVariants.{HostFault}
-use Rattle.host_folder.specs.Folders.{HostPath, HostTree}
+use Rattle.copy_rules.specs.host_folder.Folders.{HostPath, HostTree}
 use Rattle.copy_rules.specs.declared.copied.Totals.{Totals}
 use Rattle.copy_rules.specs.declared.copied.CopyFail.{CopyFail}
 use Rattle.copy_rules.specs.Ends.{HostCause}

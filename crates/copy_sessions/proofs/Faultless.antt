@@ -5,11 +5,11 @@ use Rattle.std.specs.declared.option.Option.TheVariants.{None, Some}
 use Rattle.std.specs.declared.result.Result.{Result}
 use Rattle.std.specs.declared.result.Result.TheVariants.{Ok, Err}
 use Rattle.fs_model.specs.declared.command.Command.{Command}
-use Rattle.answers.specs.declared.answer.Answer.{Answer}
-use Rattle.answers.specs.declared.answer.Answer.TheVariants.{Reply as Replied, Memory, Spent, FaultDirectory, FaultState, Violation, Refused}
-use Rattle.answers.specs.Sessions.{Exchange}
-use Rattle.answers.specs.Summaries.{is_other}
-use Rattle.line_io.specs.Streams.{Stream}
+use Rattle.session_lines.specs.answers.declared.answer.Answer.{Answer}
+use Rattle.session_lines.specs.answers.declared.answer.Answer.TheVariants.{Reply as Replied, Memory, Spent, FaultDirectory, FaultState, Violation, Refused}
+use Rattle.session_lines.specs.answers.Sessions.{Exchange}
+use Rattle.session_lines.specs.answers.Summaries.{is_other}
+use Rattle.session_lines.specs.line_io.Streams.{Stream}
 use Rattle.outside.specs.Causes.{RoseBy}
 use Rattle.run_status.specs.declared.status.Status.{Status}
 use Rattle.run_status.specs.declared.status.Status.TheVariants as status
@@ -21,7 +21,7 @@ use Rattle.copy_rules.specs.declared.copied.Totals.{Totals}
 use Rattle.copy_rules.specs.Ends.{HostCause, EndsBy}
 use Rattle.copy_rules.specs.Exporting.{IsExport, IsIdleBy, EndsOut}
 use Rattle.copy_rules.specs.Questions.{Question}
-use Rattle.host_folder.specs.Folders.{HostPath, HostTree}
+use Rattle.copy_rules.specs.host_folder.Folders.{HostPath, HostTree}
 use Rattle.copy_sessions.specs.declared.way.Way.{Way}
 use Rattle.copy_sessions.specs.declared.way.Way.TheVariants.{In, Out}
 use Rattle.copy_sessions.specs.Coming.{IsTold, IsCopyTold}

@@ -6,10 +6,10 @@ use Rattle.fs_model.specs.declared.command.Command.{Command}
 use Rattle.fs_model.specs.declared.reply.Reply.{Reply}
 use Rattle.fs_model.specs.Instant.{Instant}
 use Rattle.fs_model.specs.Tree.{Tree}
-use Rattle.answers.specs.declared.answer.Answer.{Answer}
-use Rattle.answers.specs.declared.answer.Answer.TheVariants.{Reply as Replied, Memory, Spent, FaultDirectory, FaultState, Violation, Refused}
-use Rattle.answers.specs.Sessions.{Follows, Next, latest, violated}
-use Rattle.answers.specs.Summaries.{is_other}
+use Rattle.session_lines.specs.answers.declared.answer.Answer.{Answer}
+use Rattle.session_lines.specs.answers.declared.answer.Answer.TheVariants.{Reply as Replied, Memory, Spent, FaultDirectory, FaultState, Violation, Refused}
+use Rattle.session_lines.specs.answers.Sessions.{Follows, Next, latest, violated}
+use Rattle.session_lines.specs.answers.Summaries.{is_other}
 use Rattle.copy_rules.specs.declared.asker.Stopped.{Stopped}
 use Rattle.copy_rules.specs.Questions.{Question, Answered, Followed}
 use Rattle.copy_rules.proofs.Copying.{done_merges, import_same}

@@ -6,11 +6,11 @@ use Rattle.std.specs.declared.result.Result.{Result}
 use Rattle.std.specs.declared.result.Result.TheVariants.{Ok, Err}
 use Rattle.fs_model.specs.declared.reply.Reply.{Reply}
 use Rattle.fs_model.specs.Instant.{Instant}
-use Rattle.answers.specs.declared.answer.Answer.{Answer}
-use Rattle.answers.specs.declared.answer.Answer.TheVariants.{Reply as Replied}
-use Rattle.answers.specs.Hosts.{Hosting, Ran}
-use Rattle.answers.specs.Sessions.{Exchange}
-use Rattle.answers.specs.Summaries.{is_other}
+use Rattle.session_lines.specs.answers.declared.answer.Answer.{Answer}
+use Rattle.session_lines.specs.answers.declared.answer.Answer.TheVariants.{Reply as Replied}
+use Rattle.session_lines.specs.answers.Hosts.{Hosting, Ran}
+use Rattle.session_lines.specs.answers.Sessions.{Exchange}
+use Rattle.session_lines.specs.answers.Summaries.{is_other}
 use Rattle.copy_rules.specs.declared.asker.Stopped.{Stopped}
 use Rattle.copy_rules.specs.Questions.{Question}
 

@@ -2,8 +2,8 @@
 use Rattle.std.specs.Prelude.{◌≡◌, ℕ}
 use Rattle.std.specs.declared.option.Option.{Option}
 use Rattle.fs_model.specs.Instant.{Instant}
-use Rattle.answers.specs.declared.answer.Answer.{Answer}
-use Rattle.answers.specs.Hosts.{Hosting}
+use Rattle.session_lines.specs.answers.declared.answer.Answer.{Answer}
+use Rattle.session_lines.specs.answers.Hosts.{Hosting}
 use Rattle.copy_rules.specs.Questions.{Asking}
 use Rattle.copy_sessions.specs.Fitting.{WentBy}
 

@@ -2,9 +2,9 @@
 use Rattle.std.proofs.Common.{◌≡◌, ℕ, List, [], ◌∷◌, ◌++◌, refl, sym, ap, ◌∙◌, subst, append_assoc, append-nil}
 use Rattle.std.specs.declared.option.Option.{Option}
 use Rattle.fs_model.specs.Instant.{Instant}
-use Rattle.answers.specs.declared.answer.Answer.{Answer}
-use Rattle.answers.specs.Hosts.{Hosting, Ran}
-use Rattle.answers.specs.Sessions.{Exchange}
+use Rattle.session_lines.specs.answers.declared.answer.Answer.{Answer}
+use Rattle.session_lines.specs.answers.Hosts.{Hosting, Ran}
+use Rattle.session_lines.specs.answers.Sessions.{Exchange}
 use Rattle.copy_rules.specs.Questions.{Question, LawfulAsker}
 use Rattle.copy_sessions.specs.Fitting.{Fits, kept_by, kept_after, WentBy}
 use Rattle.copy_sessions.specs.Hosted.{host_asking}

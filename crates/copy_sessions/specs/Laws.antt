@@ -6,15 +6,15 @@ use Rattle.std.specs.declared.result.Result.{Result}
 use Rattle.std.specs.declared.result.Result.TheVariants.{Ok, Err}
 use Rattle.fs_model.specs.Instant.{Instant}
 use Rattle.fs_model.specs.Tree.{Tree, IsWellFormed}
-use Rattle.answers.specs.Sessions.{Exchange, IsSession, latest}
-use Rattle.answers.specs.declared.answer.Answer.{Answer}
-use Rattle.answers.specs.declared.answer.Answer.TheVariants as answer
-use Rattle.line_io.specs.Streams.{Stream}
+use Rattle.session_lines.specs.answers.Sessions.{Exchange, IsSession, latest}
+use Rattle.session_lines.specs.answers.declared.answer.Answer.{Answer}
+use Rattle.session_lines.specs.answers.declared.answer.Answer.TheVariants as answer
+use Rattle.session_lines.specs.line_io.Streams.{Stream}
 use Rattle.outside.specs.Causes.{RoseBy}
 use Rattle.run_status.specs.declared.status.Status.{Status}
 use Rattle.run_status.specs.declared.status.Status.TheVariants as status
 use Rattle.session_lines.specs.declared.end.End.{End}
-use Rattle.host_folder.specs.Folders.{HostPath, HostTree}
+use Rattle.copy_rules.specs.host_folder.Folders.{HostPath, HostTree}
 use Rattle.copy_rules.specs.declared.copied.CopyFail.{CopyFail}
 use Rattle.copy_rules.specs.declared.copied.CopyFail.TheVariants as fail
 use Rattle.copy_rules.specs.declared.copied.Totals.{Totals}

@@ -3,8 +3,8 @@ ghost use Rattle.std.specs.Prelude.{◌≡◌, Ok};
 ghost use Rattle.fs_model.specs.Fitting.{IsFitting};
 ghost use Rattle.copy_sessions.specs.Fitting.{ReplyOf};
 
-use answers::{Answer, Host};
 use fs_model::{Command, Moment, Reply};
+use session_lines::answers::{Answer, Host};
 use std::alloc::Global;
 
 /// The answer to a command. What refuses is asked for nothing.

@@ -1,11 +1,11 @@
 // Names with escapes.
 ghost use Rattle.std.specs.Prelude.{◌≡◌, ◌<◌, false};
 ghost use Rattle.std.specs.Fmt.{digit_glyph};
-ghost use Rattle.script_text.specs.Appending.{Appends};
-ghost use Rattle.script_text.specs.Texts.{escape, escaped};
+ghost use Rattle.session_lines.specs.script_text.Appending.{Appends};
+ghost use Rattle.session_lines.specs.script_text.Texts.{escape, escaped};
 
 use block_id::Memory;
-use script_text::push_bytes;
+use session_lines::script_text::push_bytes;
 
 /// Bytes of a name.
 pub fn push_escaped(out: &mut Vec<u8>, bytes: &[u8]) -> Result<(), Memory>

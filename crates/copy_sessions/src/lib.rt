@@ -20,3 +20,7 @@ pub use status::stopped_status;
 pub use telling::tell_copy;
 pub use text::{CopyText, LONG_TEXT};
 pub use way::Way;
+
+// Handed on to crates above, which needn't list them.
+pub use session_lines;
+pub use session_lines::{answers, line_io, script_text};

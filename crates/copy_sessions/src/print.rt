@@ -2,17 +2,17 @@
 ghost use Rattle.std.specs.Prelude.{◌≡◌, ◌++◌, ◌∷◌, codes};
 ghost use Rattle.std.specs.List.{flat_map};
 ghost use Rattle.std.specs.Fmt.{decimal};
-ghost use Rattle.script_text.specs.Appending.{Appends};
-ghost use Rattle.script_text.specs.Texts.{line, word, escaped, error_name};
+ghost use Rattle.session_lines.specs.script_text.Appending.{Appends};
+ghost use Rattle.session_lines.specs.script_text.Texts.{line, word, escaped, error_name};
 ghost use Rattle.copy_sessions.specs.Texts.{counts_text, copy_text, error_text, kept_text, path_text, name_text, totals_text, verb_of};
 
 use crate::escapes::push_escaped;
 use crate::way::Way;
-use answers::{Answer, print_answer};
 use block_id::Memory;
 use copy_rules::{CopyFail, Totals};
 use fs_model::{FsError, Name, Path};
-use script_text::{push_bytes, push_decimal};
+use session_lines::answers::{Answer, print_answer};
+use session_lines::script_text::{push_bytes, push_decimal};
 
 #[tactic(auto, unfolding(crate::specs::Texts::copy_text))]
 /// Appends the line of a copy that ended so, with this answer kept.

@@ -2,9 +2,9 @@
 ghost use Rattle.std.specs.Prelude.{◌≡◌};
 ghost use Rattle.copy_sessions.specs.Statuses.{copy_status, stopped_status};
 
-use answers::Answer;
 use copy_rules::{CopyFail, Totals};
 use run_status::Status;
+use session_lines::answers::Answer;
 
 /// The status of a copy that ended so, with this answer kept, where nothing else is the matter.
 pub fn copy_status(copied: &Result<Totals, CopyFail>, kept: &Option<Answer>) -> Status

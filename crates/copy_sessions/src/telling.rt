@@ -1,18 +1,18 @@
 // The end of a copy, told.
 ghost use Rattle.std.specs.Prelude.{◌≤◌};
-ghost use Rattle.line_io.specs.Streams.{stream_of};
+ghost use Rattle.session_lines.specs.line_io.Streams.{stream_of};
 ghost use Rattle.copy_sessions.specs.Coming.{IsCopyTold};
 
 use crate::status::copy_status;
 use crate::text::CopyText;
 use crate::way::Way;
-use answers::Answer;
 use block_id::Failed;
 use copy_rules::{CopyFail, Totals};
-use line_io::write_all;
 use outside::Sink;
 use run_status::Status;
 use session_lines::End;
+use session_lines::answers::Answer;
+use session_lines::line_io::write_all;
 
 /// Writes the line of a copy that ended so, with this answer kept, and gives its status.
 pub fn tell_copy<O: Sink>(

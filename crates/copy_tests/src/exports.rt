@@ -1,13 +1,13 @@
 // Exports into folders in memory, and what stands in them afterwards.
 use crate::PlainAsker;
 use crate::samples::{counts, empty_tree, exported, imported, is_refused};
-use copy_rules::CopyFail;
+use folder_samples::host_folder::Folder;
 use folder_samples::{Row, appends, fills_small, has_rows, holds, leads, makes};
 use fs_model::FsError;
-use host_folder::Folder;
 use memory_folder::MemoryFolder;
 use std::alloc::Global;
 use std::test::Fail;
+use tree_copy::copy_rules::CopyFail;
 
 /// A tree that was imported from this folder.
 fn tree_of<F: Folder>(alloc: Global, folder: &mut F) -> Result<PlainAsker, Fail> {

@@ -1,13 +1,13 @@
 // Imports of small folders, and what stands in the tree after them.
 use crate::PlainAsker;
 use crate::samples::{counts, empty_tree, imported, is_refused};
-use copy_rules::{CopyFail, Totals};
+use folder_samples::host_folder::Folder;
 use folder_samples::{fills_small, path};
 use fs_model::{ByteText, Command, FsError, Kind, Name, Path, Reply};
-use host_folder::Folder;
 use memory_folder::MemoryFolder;
 use std::alloc::Global;
 use std::test::Fail;
+use tree_copy::copy_rules::{CopyFail, Totals};
 
 /// Whether the file at the path has these bytes from this place on.
 fn holds(asker: &mut PlainAsker, file: Path, from: u64, wanted: &[u8]) -> bool {

@@ -10,3 +10,7 @@ mod plain_asker;
 mod samples;
 
 pub use plain_asker::PlainAsker;
+
+// Handed on to crates above, which needn't list them.
+pub use plain_tree;
+pub use tree_copy::copy_rules;

@@ -1,12 +1,12 @@
 // Trees that folders are copied into and out of, and how copies end.
 use crate::PlainAsker;
-use copy_rules::{CopyFail, Totals};
+use folder_samples::host_folder::Folder;
 use folder_samples::path;
 use fs_model::{FsError, Moment};
-use host_folder::Folder;
 use plain_tree::PlainTree;
 use std::alloc::Global;
 use std::test::Fail;
+use tree_copy::copy_rules::{CopyFail, Totals};
 use tree_copy::{export, import};
 
 pub fn empty_tree(alloc: Global) -> Result<PlainAsker, Fail> {

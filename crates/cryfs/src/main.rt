@@ -2,9 +2,9 @@
 #![tactic(auto)]
 
 use call_log::{ByteLog, CallLog};
-use program_inputs::Inputs;
+use program_run::program_inputs::Inputs;
+use program_run::real_streams::{ReaderSource, WriterSink};
 use program_run::run_program;
-use real_streams::{ReaderSource, WriterSink};
 use run_status::{Status, Storage};
 use std::io;
 use std::process::ExitCode;

@@ -4,22 +4,22 @@ use Rattle.std.specs.Prelude.{not}
 use Rattle.std.specs.Str.{bytes_eq}
 use Rattle.std.proofs.lemmas.List.{take_all}
 use Rattle.std.proofs.lemmas.Slice.Eq.{bytes_eq-Decides}
-use Rattle.block_walk.specs.declared.flaw.Flaw.{Flaw}
-use Rattle.block_walk.specs.declared.flaw.Halt.{Halt}
-use Rattle.block_walk.specs.Fronts.{FrontState, joined_front}
-use Rattle.block_walk.specs.Halts.{Halted, OnFound}
-use Rattle.block_walk.specs.Marks.{MarkList}
-use Rattle.block_walk.specs.Walks.{Walked}
-use Rattle.block_walk.proofs.Halting.{halted_here}
+use Rattle.check_rules.specs.block_walk.declared.flaw.Flaw.{Flaw}
+use Rattle.check_rules.specs.block_walk.declared.flaw.Halt.{Halt}
+use Rattle.check_rules.specs.block_walk.Fronts.{FrontState, joined_front}
+use Rattle.check_rules.specs.block_walk.Halts.{Halted, OnFound}
+use Rattle.check_rules.specs.block_walk.Marks.{MarkList}
+use Rattle.check_rules.specs.block_walk.Walks.{Walked}
+use Rattle.check_rules.proofs.block_walk_lemmas.Halting.{halted_here}
 use Rattle.check_rules.specs.Flaws.{FitsBody}
-use Rattle.dir_entries.specs.Layout.{Listing}
-use Rattle.fs_blobs.specs.Headers.{blob, header_text, BeginsWith}
-use Rattle.fs_blobs.proofs.Parts.{length-header, length-blob, read_behind}
+use Rattle.check_rules.specs.dir_entries.Layout.{Listing}
+use Rattle.check_rules.specs.fs_blobs.Headers.{blob, header_text, BeginsWith}
+use Rattle.check_rules.proofs.fs_blobs_lemmas.Parts.{length-header, length-blob, read_behind}
 use Rattle.fs_model.specs.declared.attr.Kind.{Kind}
 use Rattle.fs_model.specs.declared.attr.Kind.TheVariants.{Directory, File, Link}
 use Rattle.fs_model.specs.declared.limits.TheConstants.{MAX_ENTRIES, MAX_TARGET}
-use Rattle.store_api.specs.Content.{Id, Content}
-use Rattle.store_api.specs.Loads.{LoadAnswer}
+use Rattle.check_rules.specs.store_api.Content.{Id, Content}
+use Rattle.check_rules.specs.store_api.Loads.{LoadAnswer}
 use Rattle.cryfs_check.specs.Rows.{most_kept, FitsKept}
 use Rattle.cryfs_check.proofs.Rows.{target_fits}
 

@@ -10,14 +10,14 @@ use Rattle.std.specs.Ordering.{is_lt, eq_by_cmp}
 use Rattle.std.proofs.lemmas.Bool.{eqb-true, false_from_ne_true}
 use Rattle.std.proofs.lemmas.Option.{same_Some, get_or_from_slice_get, slice_get-map}
 use Rattle.block_id.specs.declared.id.BlockId.{BlockId}
-use Rattle.data_tree.specs.Stored.{BlobTree}
+use Rattle.check_rules.specs.data_tree.Stored.{BlobTree}
 use Rattle.fs_model.specs.Tree.{Path}
-use Rattle.store_api.specs.Content.{Id, id_cmp}
-use Rattle.store_api.specs.Holdings.{has_id}
-use Rattle.store_api.specs.Loads.{LoadAnswer}
-use Rattle.store_api.proofs.Rising.{ids_total}
-use Rattle.block_walk.specs.Given.{Given, content_of}
-use Rattle.block_walk.specs.Marks.{MarkList, unmarked, owner_of, first_unowned}
+use Rattle.check_rules.specs.store_api.Content.{Id, id_cmp}
+use Rattle.check_rules.specs.store_api.Holdings.{has_id}
+use Rattle.check_rules.specs.store_api.Loads.{LoadAnswer}
+use Rattle.check_rules.proofs.store_api_lemmas.Rising.{ids_total}
+use Rattle.check_rules.specs.block_walk.Given.{Given, content_of}
+use Rattle.check_rules.specs.block_walk.Marks.{MarkList, unmarked, owner_of, first_unowned}
 use Rattle.check_rules.specs.Certificates.{IsOwner, AreOwners, Certifies}
 use Rattle.cryfs_check.specs.Places.{PlaceText, paths_of, sites_of, owners_of}
 use Rattle.cryfs_check.specs.Seats.{Site, Seat, site_of, root_site, sites, Among, tree_in, blobs_in, ids_in, text_of, AreFound, AreSeats}

@@ -5,12 +5,12 @@ use Rattle.std.specs.FinMap.{is_sorted}
 use Rattle.std.specs.FinMap.Entries.{below_all}
 use Rattle.std.proofs.lemmas.List.{map-append}
 use Rattle.block_id.proofs.Conditions.{left, right}
-use Rattle.dir_entries.specs.Layout.{EntryTarget, Listing}
+use Rattle.check_rules.specs.dir_entries.Layout.{EntryTarget, Listing}
 use Rattle.fs_model.specs.declared.attr.Kind.{Kind}
 use Rattle.fs_model.specs.declared.attr.Kind.TheVariants.{Directory, File, Link}
 use Rattle.fs_model.specs.Tree.{Path, name_cmp}
 use Rattle.fs_model.proofs.TreeLemmas.{name_total}
-use Rattle.store_api.specs.Content.{Id}
+use Rattle.check_rules.specs.store_api.Content.{Id}
 use Rattle.cryfs_check.specs.Rows.{FitsRow}
 use Rattle.cryfs_check.specs.Seats.{Site, Seat, site_of, root_site, child_of, sites, Among, IsRowSeat, IsEntered, HaveOnePath, AreFound}
 use Rattle.cryfs_check.proofs.Lists.{among_left, among_right, among_either, among_map, map_among, not_among}

@@ -3,15 +3,15 @@ use Rattle.std.proofs.Common.{◌≡◌, ℕ, ◌+◌, Bool, true, false, List, 
 use Rattle.std.specs.Prelude.{Some, is_some, map, reverse, ◌||◌}
 use Rattle.std.specs.List.{slice_get}
 use Rattle.std.proofs.lemmas.List.{map-append, reverse-append}
-use Rattle.data_tree.specs.Trees.{NoDoubles}
-use Rattle.data_tree.proofs.Ids.{in_left, in_right, in_one}
-use Rattle.store_api.proofs.Ids.{has-append}
-use Rattle.data_tree.proofs.Making.{alone-join}
-use Rattle.store_api.specs.Content.{Id, same_id}
-use Rattle.store_api.specs.Holdings.{has_id}
-use Rattle.store_api.proofs.Rising.{same_id_is}
-use Rattle.block_walk.specs.Given.{Given}
-use Rattle.block_walk.specs.Marks.{MarkList, MarkedAll, owner_of}
+use Rattle.check_rules.specs.data_tree.Trees.{NoDoubles}
+use Rattle.check_rules.proofs.data_tree_lemmas.Ids.{in_left, in_right, in_one}
+use Rattle.check_rules.proofs.store_api_lemmas.Ids.{has-append}
+use Rattle.check_rules.proofs.data_tree_lemmas.Making.{alone-join}
+use Rattle.check_rules.specs.store_api.Content.{Id, same_id}
+use Rattle.check_rules.specs.store_api.Holdings.{has_id}
+use Rattle.check_rules.proofs.store_api_lemmas.Rising.{same_id_is}
+use Rattle.check_rules.specs.block_walk.Given.{Given}
+use Rattle.check_rules.specs.block_walk.Marks.{MarkList, MarkedAll, owner_of}
 use Rattle.cryfs_check.specs.Seats.{Seat}
 use Rattle.cryfs_check.specs.Visits.{AreOwned}
 use Rattle.cryfs_check.proofs.Lists.{at_left, at_end, at_pushed}

@@ -6,9 +6,9 @@ use Rattle.std.specs.FinMap.{find}
 use Rattle.std.specs.FinMap.Entries.{is_some-find}
 use Rattle.std.proofs.lemmas.List.Elements.{All-head, All-tail}
 use Rattle.std.proofs.lemmas.Option.{same_Some}
-use Rattle.data_tree.specs.Stored.{BlobTree}
-use Rattle.dir_entries.specs.Layout.{EntryTarget, Listing, IsEntry}
-use Rattle.forest.specs.Nodes.{IsBodyOf}
+use Rattle.check_rules.specs.data_tree.Stored.{BlobTree}
+use Rattle.check_rules.specs.dir_entries.Layout.{EntryTarget, Listing, IsEntry}
+use Rattle.check_rules.specs.forest.Nodes.{IsBodyOf}
 use Rattle.fs_model.specs.declared.attr.Kind.{Kind}
 use Rattle.fs_model.specs.declared.attr.Kind.TheVariants.{Directory, File, Link}
 use Rattle.fs_model.specs.declared.attr.TheConstants.{DIRECTORY_MODE}
@@ -16,10 +16,10 @@ use Rattle.fs_model.specs.declared.limits.TheConstants.{MAX_ENTRIES, MAX_MODE}
 use Rattle.fs_model.specs.Fitting.{is_target}
 use Rattle.fs_model.specs.Tree.{Path, name_cmp, root_row, FitsKind, IsWithinLimits}
 use Rattle.fs_model.proofs.TreeLemmas.{name_total, name_exact, path_total, path_exact}
-use Rattle.store_api.specs.Content.{Id, id_cmp}
-use Rattle.store_api.specs.Holdings.{has_id}
-use Rattle.block_walk.specs.Given.{Given, content_of}
-use Rattle.block_walk.specs.Marks.{MarkList}
+use Rattle.check_rules.specs.store_api.Content.{Id, id_cmp}
+use Rattle.check_rules.specs.store_api.Holdings.{has_id}
+use Rattle.check_rules.specs.block_walk.Given.{Given, content_of}
+use Rattle.check_rules.specs.block_walk.Marks.{MarkList}
 use Rattle.cryfs_check.specs.Rows.{FitsRow}
 use Rattle.cryfs_check.specs.Seats.{Site, Seat, site_of, row_of, root_site, child_of, sites, text_of, bytes_in, Among, seat_at, look_in, target_in, IsEntered, IsBelow, IsRootSeat, HaveOnePath, AreFound, AreSeats}
 use Rattle.cryfs_check.specs.Visits.{AreOwned}

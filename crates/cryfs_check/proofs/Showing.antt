@@ -10,12 +10,12 @@ use Rattle.std.specs.declared.cmp.Ordering.{Ordering}
 use Rattle.std.specs.declared.cmp.Ordering.TheVariants.{Less, Equal, Greater}
 use Rattle.std.proofs.lemmas.Option.{same_Some}
 use Rattle.std.proofs.lemmas.Bool.{or_left}
-use Rattle.blob_api.specs.BlobMap.{id_cmp}
-use Rattle.data_tree.specs.Stored.{BlobTree, StoresBlobs}
-use Rattle.data_tree.proofs.Ids.{same_self}
-use Rattle.forest.specs.Nodes.{Lists, IsBodyOf, IsBlobOf}
-use Rattle.forest.specs.Shows.{above, target_for, entries_at, ShowsBy}
-use Rattle.fs_blobs.specs.Headers.{blob}
+use Rattle.check_rules.specs.blob_api.BlobMap.{id_cmp}
+use Rattle.check_rules.specs.data_tree.Stored.{BlobTree, StoresBlobs}
+use Rattle.check_rules.proofs.data_tree_lemmas.Ids.{same_self}
+use Rattle.check_rules.specs.forest.Nodes.{Lists, IsBodyOf, IsBlobOf}
+use Rattle.check_rules.specs.forest.Shows.{above, target_for, entries_at, ShowsBy}
+use Rattle.check_rules.specs.fs_blobs.Headers.{blob}
 use Rattle.fs_model.specs.declared.attr.Kind.{Kind}
 use Rattle.fs_model.specs.declared.attr.Kind.TheVariants.{Directory, File, Link}
 use Rattle.fs_model.specs.declared.limits.TheConstants.{MAX_ENTRIES}
@@ -23,9 +23,9 @@ use Rattle.fs_model.specs.Tree.{Path, Row, is_directory, is_folder, children, di
 use Rattle.fs_model.proofs.TreeLemmas.{path_total, path_exact, get-children, some_of}
 use Rattle.fs_model.proofs.SizeLemmas.{no_names, size-empty, map_size}
 use Rattle.fs_model.proofs.PutRows.{below_file, below_none}
-use Rattle.path_walks.proofs.Sizes.{sizes_shown, body_size}
-use Rattle.store_api.specs.Content.{Id, Content, same_id}
-use Rattle.store_api.specs.Holdings.{has_id}
+use Rattle.check_rules.proofs.path_walks_lemmas.Sizes.{sizes_shown, body_size}
+use Rattle.check_rules.specs.store_api.Content.{Id, Content, same_id}
+use Rattle.check_rules.specs.store_api.Holdings.{has_id}
 use Rattle.cryfs_check.specs.Seats.{Seat, row_of, text_of, Among, seat_at, target_in, look_in, id_in, tree_in, blobs_in, ids_in, IsBelow, AreSeats}
 
 -- ---- seats by a key

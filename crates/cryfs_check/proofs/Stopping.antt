@@ -6,28 +6,28 @@ use Rattle.std.specs.Option.{option_map}
 use Rattle.std.proofs.lemmas.Bool.{or_left, or_right, or_cases, false_from_ne_true}
 use Rattle.std.proofs.lemmas.List.{map-append}
 use Rattle.block_id.specs.declared.fail.Fail.{Fail}
-use Rattle.data_tree.specs.Stored.{BlobTree}
-use Rattle.data_tree.specs.Trees.{NoDoubles}
-use Rattle.data_tree.proofs.Ids.{in_one}
-use Rattle.data_tree.proofs.Making.{alone-join}
-use Rattle.dir_entries.specs.Layout.{EntryTarget}
-use Rattle.fs_blobs.specs.Headers.{blob}
+use Rattle.check_rules.specs.data_tree.Stored.{BlobTree}
+use Rattle.check_rules.specs.data_tree.Trees.{NoDoubles}
+use Rattle.check_rules.proofs.data_tree_lemmas.Ids.{in_one}
+use Rattle.check_rules.proofs.data_tree_lemmas.Making.{alone-join}
+use Rattle.check_rules.specs.dir_entries.Layout.{EntryTarget}
+use Rattle.check_rules.specs.fs_blobs.Headers.{blob}
 use Rattle.fs_model.specs.declared.attr.Kind.{Kind}
 use Rattle.fs_model.specs.declared.attr.Kind.TheVariants.{Directory}
 use Rattle.fs_model.specs.Tree.{Path}
 use Rattle.fs_model.proofs.TreeLemmas.{name_total, name_exact}
-use Rattle.store_api.specs.Content.{Id, Content, same_id}
-use Rattle.store_api.specs.Holdings.{has_id}
-use Rattle.store_api.specs.Loads.{LoadAnswer}
-use Rattle.block_walk.specs.declared.flaw.Flaw.{Flaw}
-use Rattle.block_walk.specs.declared.flaw.Flaw.TheVariants.{BadNode, BadBlob, Parent, Twice, NotLive, Unowned}
-use Rattle.block_walk.specs.declared.flaw.Halt.{Halt}
-use Rattle.block_walk.specs.declared.flaw.Halt.TheVariants.{Found, Failing}
-use Rattle.block_walk.specs.Given.{Given, Asked, AgreesWith, given_of, content_of}
-use Rattle.block_walk.specs.Halts.{Halted, OnFound, IsOwned}
-use Rattle.block_walk.specs.Marks.{MarkList, owner_of}
-use Rattle.block_walk.proofs.Chains.{agrees-parts}
-use Rattle.block_walk.proofs.Halting.{asked_of, gave-asked, asked-then, asked-ids, asked-again, given-then}
+use Rattle.check_rules.specs.store_api.Content.{Id, Content, same_id}
+use Rattle.check_rules.specs.store_api.Holdings.{has_id}
+use Rattle.check_rules.specs.store_api.Loads.{LoadAnswer}
+use Rattle.check_rules.specs.block_walk.declared.flaw.Flaw.{Flaw}
+use Rattle.check_rules.specs.block_walk.declared.flaw.Flaw.TheVariants.{BadNode, BadBlob, Parent, Twice, NotLive, Unowned}
+use Rattle.check_rules.specs.block_walk.declared.flaw.Halt.{Halt}
+use Rattle.check_rules.specs.block_walk.declared.flaw.Halt.TheVariants.{Found, Failing}
+use Rattle.check_rules.specs.block_walk.Given.{Given, Asked, AgreesWith, given_of, content_of}
+use Rattle.check_rules.specs.block_walk.Halts.{Halted, OnFound, IsOwned}
+use Rattle.check_rules.specs.block_walk.Marks.{MarkList, owner_of}
+use Rattle.check_rules.proofs.block_walk_lemmas.Chains.{agrees-parts}
+use Rattle.check_rules.proofs.block_walk_lemmas.Halting.{asked_of, gave-asked, asked-then, asked-ids, asked-again, given-then}
 use Rattle.check_rules.specs.Flaws.{HasFlaw, HasBadBlob, HasParent}
 use Rattle.check_rules.specs.Marked.{IsElsewhere, MarksOthers}
 use Rattle.check_rules.specs.Reached.{IsReached}

@@ -5,8 +5,8 @@ use Rattle.std.specs.List.{slice_get}
 use Rattle.std.specs.Option.{option_map}
 use Rattle.std.proofs.lemmas.List.{length-append, length-map, map-append, get_or_append_left, get_or_past}
 use Rattle.std.proofs.lemmas.Option.{slice_get-map, slice_get_past, get_or_from_slice_get}
-use Rattle.dir_entries.specs.Layout.{Listing}
-use Rattle.store_api.specs.Content.{Id}
+use Rattle.check_rules.specs.dir_entries.Layout.{Listing}
+use Rattle.check_rules.specs.store_api.Content.{Id}
 use Rattle.cryfs_check.specs.Places.{PlaceText, paths_on, paths_of, sites_on, sites_of, AreBehind, placed}
 use Rattle.cryfs_check.specs.Seats.{Site, root_site, child_of}
 use Rattle.cryfs_check.proofs.Lists.{at_end, at_either, map_among}

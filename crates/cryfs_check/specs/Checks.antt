@@ -1,24 +1,24 @@
 -- What a check answers.
 use Rattle.std.specs.Prelude.{◌≡◌, ℕ, T, true, List, map, is_some, Result, Ok, Err}
 use Rattle.std.specs.FinMap.{get, is_sorted}
-use Rattle.blob_api.specs.BlobMap.{BlobMap}
-use Rattle.data_nodes.specs.Layout.{ids_of}
-use Rattle.data_tree.specs.Stored.{StoresBlobs}
-use Rattle.data_tree.specs.Trees.{NoDoubles}
-use Rattle.forest.specs.Shows.{ShowsTree}
+use Rattle.check_rules.specs.blob_api.BlobMap.{BlobMap}
+use Rattle.check_rules.specs.data_nodes.Layout.{ids_of}
+use Rattle.check_rules.specs.data_tree.Stored.{StoresBlobs}
+use Rattle.check_rules.specs.data_tree.Trees.{NoDoubles}
+use Rattle.check_rules.specs.forest.Shows.{ShowsTree}
 use Rattle.fs_model.specs.Tree.{Tree}
 use Rattle.block_id.specs.declared.fail.Fail.{Fail}
 use Rattle.block_id.specs.declared.id.BlockId.{BlockId}
-use Rattle.block_walk.specs.declared.flaw.Flaw.{Flaw}
-use Rattle.block_walk.specs.declared.flaw.Halt.{Halt}
-use Rattle.block_walk.specs.declared.flaw.Halt.TheVariants.{Found, Failing}
-use Rattle.block_walk.specs.Given.{Given, GaveBy, Asked, AskedBy, given_of, content_of}
-use Rattle.block_walk.specs.Marks.{unmarked}
+use Rattle.check_rules.specs.block_walk.declared.flaw.Flaw.{Flaw}
+use Rattle.check_rules.specs.block_walk.declared.flaw.Halt.{Halt}
+use Rattle.check_rules.specs.block_walk.declared.flaw.Halt.TheVariants.{Found, Failing}
+use Rattle.check_rules.specs.block_walk.Given.{Given, GaveBy, Asked, AskedBy, given_of, content_of}
+use Rattle.check_rules.specs.block_walk.Marks.{unmarked}
 use Rattle.check_rules.specs.Certificates.{Owners, Certifies}
 use Rattle.check_rules.specs.Flaws.{HasFlaw, Refutes}
-use Rattle.store_api.specs.Content.{Id, Content, id_cmp}
-use Rattle.store_api.specs.Holdings.{has_id}
-use Rattle.store_api.specs.Loads.{LoadAnswer}
+use Rattle.check_rules.specs.store_api.Content.{Id, Content, id_cmp}
+use Rattle.check_rules.specs.store_api.Holdings.{has_id}
+use Rattle.check_rules.specs.store_api.Loads.{LoadAnswer}
 use Rattle.cryfs_check.specs.declared.checking.Checked.{Checked}
 use Rattle.cryfs_check.specs.declared.checking.Checked.TheVariants.{Yes, No}
 

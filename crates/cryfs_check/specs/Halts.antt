@@ -1,20 +1,20 @@
 -- Why visits stop.
 use Rattle.std.specs.Prelude.{◌≡◌, ℕ, true, List, length, map, is_some}
-use Rattle.outcome.specs.Meanings.{Meanings}
-use Rattle.data_tree.specs.Stored.{BlobTree}
-use Rattle.data_tree.specs.Trees.{NoDoubles}
-use Rattle.fs_blobs.specs.Headers.{blob}
+use Rattle.check_rules.specs.outcome.Meanings.{Meanings}
+use Rattle.check_rules.specs.data_tree.Stored.{BlobTree}
+use Rattle.check_rules.specs.data_tree.Trees.{NoDoubles}
+use Rattle.check_rules.specs.fs_blobs.Headers.{blob}
 use Rattle.fs_model.specs.declared.attr.Kind.{Kind}
-use Rattle.store_api.specs.Content.{Id, Content}
-use Rattle.store_api.specs.Holdings.{Holdings, has_id}
-use Rattle.store_api.specs.Loads.{LoadAnswer}
-use Rattle.block_walk.specs.declared.flaw.Flaw.{Flaw}
-use Rattle.block_walk.specs.declared.flaw.Flaw.TheVariants.{BadBlob, Parent}
-use Rattle.block_walk.specs.declared.flaw.Halt.{Halt}
-use Rattle.block_walk.specs.Given.{Asked, AskedBy, IsLoad, given_of, content_of}
-use Rattle.block_walk.specs.Halts.{FlawAt, Halted, OnFound}
-use Rattle.block_walk.specs.Marks.{MarkList, owner_of}
-use Rattle.block_walk.specs.Needs.{top, Leads}
+use Rattle.check_rules.specs.store_api.Content.{Id, Content}
+use Rattle.check_rules.specs.store_api.Holdings.{Holdings, has_id}
+use Rattle.check_rules.specs.store_api.Loads.{LoadAnswer}
+use Rattle.check_rules.specs.block_walk.declared.flaw.Flaw.{Flaw}
+use Rattle.check_rules.specs.block_walk.declared.flaw.Flaw.TheVariants.{BadBlob, Parent}
+use Rattle.check_rules.specs.block_walk.declared.flaw.Halt.{Halt}
+use Rattle.check_rules.specs.block_walk.Given.{Asked, AskedBy, IsLoad, given_of, content_of}
+use Rattle.check_rules.specs.block_walk.Halts.{FlawAt, Halted, OnFound}
+use Rattle.check_rules.specs.block_walk.Marks.{MarkList, owner_of}
+use Rattle.check_rules.specs.block_walk.Needs.{top, Leads}
 use Rattle.check_rules.specs.Flaws.{FitsBody, HasFlaw}
 use Rattle.cryfs_check.specs.declared.place.Visit.{Visit}
 

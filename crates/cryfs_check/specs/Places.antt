@@ -1,11 +1,11 @@
 -- The table of places: each path below the root by its directory's number and its entry. The root has the number 0, and the n-th place the number n.
 use Rattle.std.specs.Prelude.{◌≡◌, ◌≤◌, ℕ, ◌-◌, List, [], ◌∷◌, ◌++◌, map, get_or, Some}
 use Rattle.std.specs.List.{slice_get}
-use Rattle.dir_entries.specs.Layout.{EntryTarget, Listing, entry_of}
+use Rattle.check_rules.specs.dir_entries.Layout.{EntryTarget, Listing, entry_of}
 use Rattle.fs_model.specs.declared.attr.Kind.{Kind}
 use Rattle.fs_model.specs.Tree.{Path}
-use Rattle.store_api.specs.Content.{Id}
-use Rattle.block_walk.specs.Marks.{MarkList}
+use Rattle.check_rules.specs.store_api.Content.{Id}
+use Rattle.check_rules.specs.block_walk.Marks.{MarkList}
 use Rattle.cryfs_check.specs.declared.place.Place.{Place}
 use Rattle.cryfs_check.specs.declared.place.Visit.{Visit}
 use Rattle.cryfs_check.specs.Seats.{Site, root_site, child_of}

@@ -2,19 +2,19 @@
 use Rattle.std.specs.Prelude.{◌≡◌, ◌⊎◌, ◌≤◌, ℕ, true, List, [], ◌∷◌, ◌++◌, length, map, Option, Some, None, is_some}
 use Rattle.std.specs.FinMap.{find, from_entries}
 use Rattle.block_id.specs.Fresh.{zero_id}
-use Rattle.blob_api.specs.BlobMap.{BlobMap}
-use Rattle.data_tree.specs.Stored.{BlobTree}
-use Rattle.dir_entries.specs.Layout.{EntryTarget, Listing}
-use Rattle.forest.specs.Nodes.{Look, IsBodyOf}
-use Rattle.fs_blobs.specs.Headers.{blob}
+use Rattle.check_rules.specs.blob_api.BlobMap.{BlobMap}
+use Rattle.check_rules.specs.data_tree.Stored.{BlobTree}
+use Rattle.check_rules.specs.dir_entries.Layout.{EntryTarget, Listing}
+use Rattle.check_rules.specs.forest.Nodes.{Look, IsBodyOf}
+use Rattle.check_rules.specs.fs_blobs.Headers.{blob}
 use Rattle.fs_model.specs.declared.attr.Attr.{Attr}
 use Rattle.fs_model.specs.declared.attr.Kind.{Kind}
 use Rattle.fs_model.specs.declared.attr.Kind.TheVariants.{Directory, File, Link}
 use Rattle.fs_model.specs.declared.limits.TheConstants.{MAX_ENTRIES}
 use Rattle.fs_model.specs.Names.{IsName}
 use Rattle.fs_model.specs.Tree.{Path, Row, Tree, path_cmp, root_row, IsWithinLimits}
-use Rattle.store_api.specs.Content.{Id, Content}
-use Rattle.store_api.specs.Holdings.{has_id}
+use Rattle.check_rules.specs.store_api.Content.{Id, Content}
+use Rattle.check_rules.specs.store_api.Holdings.{has_id}
 use Rattle.cryfs_check.specs.Rows.{FitsRow}
 
 -- a path to visit: what its entry says, and the blob of its directory

@@ -1,17 +1,17 @@
 -- What visits in a row did and found.
 use Rattle.std.specs.Prelude.{◌≡◌, ℕ, ◌+◌, true, List, [], ◌++◌, length, map, Some, is_some}
 use Rattle.std.specs.List.{slice_get}
-use Rattle.data_tree.specs.Stored.{BlobTree}
-use Rattle.data_tree.specs.Trees.{NoDoubles}
-use Rattle.dir_entries.specs.Layout.{Listing}
+use Rattle.check_rules.specs.data_tree.Stored.{BlobTree}
+use Rattle.check_rules.specs.data_tree.Trees.{NoDoubles}
+use Rattle.check_rules.specs.dir_entries.Layout.{Listing}
 use Rattle.fs_model.specs.declared.attr.Kind.{Kind}
-use Rattle.store_api.specs.Content.{Id, Content}
-use Rattle.store_api.specs.Holdings.{has_id}
-use Rattle.store_api.specs.Loads.{LoadAnswer}
-use Rattle.block_walk.specs.Fronts.{FrontState}
-use Rattle.block_walk.specs.Given.{Given, GaveBy, AgreesWith}
-use Rattle.block_walk.specs.Marks.{MarkList, owner_of}
-use Rattle.block_walk.specs.Walks.{Walked}
+use Rattle.check_rules.specs.store_api.Content.{Id, Content}
+use Rattle.check_rules.specs.store_api.Holdings.{has_id}
+use Rattle.check_rules.specs.store_api.Loads.{LoadAnswer}
+use Rattle.check_rules.specs.block_walk.Fronts.{FrontState}
+use Rattle.check_rules.specs.block_walk.Given.{Given, GaveBy, AgreesWith}
+use Rattle.check_rules.specs.block_walk.Marks.{MarkList, owner_of}
+use Rattle.check_rules.specs.block_walk.Walks.{Walked}
 use Rattle.cryfs_check.specs.Rows.{IsRowBlob, most_kept}
 use Rattle.cryfs_check.specs.Places.{PlaceText, AreBehind, placed, sites_of}
 use Rattle.cryfs_check.specs.Seats.{Site, Seat, sites, text_of, Among, AreFound}

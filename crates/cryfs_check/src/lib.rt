@@ -10,3 +10,6 @@ pub use checking::{Checked, check};
 pub use owners::{Owners, path_at};
 pub use place::{Place, Visit, place_entries, visit_at};
 pub use visiting::visit;
+
+// Handed on to crates above, which needn't list them.
+pub use check_rules::block_walk;

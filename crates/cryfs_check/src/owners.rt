@@ -6,7 +6,7 @@ ghost use Rattle.cryfs_check.specs.Places.{owners_of, places_text, paths_of, Are
 
 use crate::place::Place;
 use block_id::{BlockId, Memory};
-use block_walk::Marks;
+use check_rules::block_walk::Marks;
 use fs_model::{Name, Path};
 use std::alloc::Global;
 use std::marker::Model;
@@ -22,7 +22,7 @@ impl Model for Owners {
     ghost use Rattle.std.specs.Prelude.{List};
     ghost use Rattle.cryfs_check.specs.Places.{owners_of, places_text, AreBehind};
     ghost use Rattle.fs_model.specs.Tree.{Path as TreePath};
-    ghost use Rattle.store_api.specs.Content.{Id};
+    ghost use Rattle.check_rules.specs.store_api.Content.{Id};
 
     ghost Value = { List (Id × TreePath) };
 

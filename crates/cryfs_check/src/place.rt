@@ -2,12 +2,12 @@
 ghost use Rattle.std.specs.Prelude.{◌≡◌, ◌++◌, OnOk, get_or};
 ghost use Rattle.std.specs.List.{slice_get};
 ghost use Rattle.std.specs.Option.{option_map};
-ghost use Rattle.dir_entries.specs.Layout.{listing_of};
+ghost use Rattle.check_rules.specs.dir_entries.Layout.{listing_of};
 ghost use Rattle.cryfs_check.specs.Places.{places_text, placed, sites_of, AreBehind, site_needs, visit_needs};
 ghost use Rattle.cryfs_check.specs.Seats.{root_site};
 
 use block_id::{BlockId, Memory};
-use dir_entries::Entry;
+use check_rules::dir_entries::Entry;
 use fs_model::Kind;
 
 /// A path below the root: the number of its directory (0 is the root, n the n-th place), and its entry there.

@@ -1,24 +1,24 @@
 // One path of the tree: its blob is walked and judged.
 ghost use Rattle.std.specs.Prelude.{◌≡◌, ◌≢◌, ◌<◌, [], true, false, IfOk, IfErr, IfSome, IfNone};
-ghost use Rattle.outcome.specs.Meanings.{IsOfBlocks};
-ghost use Rattle.outcome.specs.Outcome.{Outcome};
-ghost use Rattle.store_api.specs.Holdings.{Stays};
-ghost use Rattle.data_tree.specs.Stored.{BlobTree};
-ghost use Rattle.dir_entries.specs.Layout.{Listing, listing_of};
-ghost use Rattle.block_walk.specs.Fronts.{FrontState};
-ghost use Rattle.block_walk.specs.Given.{fail_of, IsLoad};
-ghost use Rattle.block_walk.specs.Walks.{Walked};
+ghost use Rattle.check_rules.specs.outcome.Meanings.{IsOfBlocks};
+ghost use Rattle.check_rules.specs.outcome.Outcome.{Outcome};
+ghost use Rattle.check_rules.specs.store_api.Holdings.{Stays};
+ghost use Rattle.check_rules.specs.data_tree.Stored.{BlobTree};
+ghost use Rattle.check_rules.specs.dir_entries.Layout.{Listing, listing_of};
+ghost use Rattle.check_rules.specs.block_walk.Fronts.{FrontState};
+ghost use Rattle.check_rules.specs.block_walk.Given.{fail_of, IsLoad};
+ghost use Rattle.check_rules.specs.block_walk.Walks.{Walked};
 ghost use Rattle.cryfs_check.specs.Rows.{IsRowBlob, FitsKept, most_kept};
 ghost use Rattle.cryfs_check.specs.Halts.{IsHalted};
 
 use crate::place::Visit;
 use block_id::{Fail, Memory};
-use block_walk::{Flaw, Front, Halt, Marks, walk_root};
-use dir_entries::{Entry, decode_entries};
-use fs_blobs::{HEADER_LEN, read_header};
+use check_rules::block_walk::{Flaw, Front, Halt, Marks, walk_root};
+use check_rules::dir_entries::{Entry, decode_entries};
+use check_rules::fs_blobs::{HEADER_LEN, read_header};
+use check_rules::store_api::Blocks;
 use fs_model::{Kind, MAX_ENTRIES, MAX_FILE, MAX_TARGET, has_zero};
 use std::alloc::Global;
-use store_api::Blocks;
 
 /// How many bytes of a blob are kept while it is walked: the header, and for a directory and a link one byte more than the body may have.
 fn kept_of(kind: Kind) -> usize

@@ -3,51 +3,51 @@ use Rattle.std.proofs.Common.{◌≡◌, ◌⊎◌, ◌≤◌, ◌-◌, ℕ, Boo
 use Rattle.std.specs.Prelude.{Result, is_some, is_ok, IfOk, IsOk, OnOk, OnErr}
 use Rattle.std.specs.declared.option.Option.{Option}
 use Rattle.std.specs.declared.result.Result.TheVariants.{Ok, Err}
-use Rattle.aes_gcm.specs.Gcm.{opened_of}
-use Rattle.answers.specs.Sessions.{is_violation, directory_faults, state_faults}
-use Rattle.answers.specs.declared.answer.Answer.{Answer}
-use Rattle.answers.specs.declared.answer.Answer.TheVariants as answer
-use Rattle.config_file.specs.Settings.{Settings, settings_of}
-use Rattle.config_file.specs.declared.config.Opened.{Opened}
+use Rattle.session_runs.specs.aes_gcm.Gcm.{opened_of}
+use Rattle.session_runs.specs.answers.Sessions.{is_violation, directory_faults, state_faults}
+use Rattle.session_runs.specs.answers.declared.answer.Answer.{Answer}
+use Rattle.session_runs.specs.answers.declared.answer.Answer.TheVariants as answer
+use Rattle.session_runs.specs.config_file.Settings.{Settings, settings_of}
+use Rattle.session_runs.specs.config_file.declared.config.Opened.{Opened}
 use Rattle.fs_model.specs.Tree.{Tree}
-use Rattle.held_blocks.specs.Forgeries.{forged}
-use Rattle.held_blocks.specs.Standing.{records}
-use Rattle.local_state.specs.Known.{live_ids}
-use Rattle.local_state.specs.Record.{PlainState}
-use Rattle.mount.proofs.Reading.{represents_told}
-use Rattle.mount.proofs.Standing.{represents}
-use Rattle.mount.specs.Answering.{store_of, calls_of, forgeries_of, lies_of, kept_of}
-use Rattle.mount.specs.declared.mount.Mount.{Mount}
-use Rattle.mount.specs.Mounts.{IsReady, MountClosed}
-use Rattle.mount.specs.Representing.{Represents}
-use Rattle.mount.specs.Tower.{tower, TowerStands}
-use Rattle.mount.specs.Formats.{TakesFrom}
+use Rattle.session_runs.specs.held_blocks.Forgeries.{forged}
+use Rattle.session_runs.specs.held_blocks.Standing.{records}
+use Rattle.session_runs.specs.local_state.Known.{live_ids}
+use Rattle.session_runs.specs.local_state.Record.{PlainState}
+use Rattle.session_runs.proofs.mount_lemmas.Reading.{represents_told}
+use Rattle.session_runs.proofs.mount_lemmas.Standing.{represents}
+use Rattle.session_runs.specs.mount.Answering.{store_of, calls_of, forgeries_of, lies_of, kept_of}
+use Rattle.session_runs.specs.mount.declared.mount.Mount.{Mount}
+use Rattle.session_runs.specs.mount.Mounts.{IsReady, MountClosed}
+use Rattle.session_runs.specs.mount.Representing.{Represents}
+use Rattle.session_runs.specs.mount.Tower.{tower, TowerStands}
+use Rattle.session_runs.specs.mount.Formats.{TakesFrom}
 use Rattle.mount_calls.proofs.Newest.{newest_takes}
 use Rattle.mount_calls.specs.Migrating.{ids_in, least_in, KeepsNewest, Counts, MigratesMount}
-use Rattle.mount_core.specs.Answers.{OnSpent}
-use Rattle.mount_core.specs.Configuring.{ConfigAnswered, ConfigClosed}
-use Rattle.mount_core.specs.Standing.{Left, IsKeptMarked}
-use Rattle.mount_migrating.specs.Migrating.{told, IsSpentAmong}
-use Rattle.mount_migrating.specs.declared.error.MigrateError.{MigrateError}
-use Rattle.mount_tower.proofs.Reading.{same_kept}
-use Rattle.mount_tower.specs.Identities.{KeepsRecord}
-use Rattle.mount_tower.specs.Tower.{held_in, tower_holdings, tower_durables}
+use Rattle.session_runs.specs.mount_core.Answers.{OnSpent}
+use Rattle.session_runs.specs.mount_core.Configuring.{ConfigAnswered, ConfigClosed}
+use Rattle.session_runs.specs.mount_core.Standing.{Left, IsKeptMarked}
+use Rattle.mount_calls.specs.mount_migrating.Migrating.{told, IsSpentAmong}
+use Rattle.mount_calls.specs.mount_migrating.declared.error.MigrateError.{MigrateError}
+use Rattle.session_runs.proofs.mount_tower_lemmas.Reading.{same_kept}
+use Rattle.session_runs.specs.mount_tower.Identities.{KeepsRecord}
+use Rattle.session_runs.specs.mount_tower.Tower.{held_in, tower_holdings, tower_durables}
 use Rattle.outside.specs.Causes.{RoseBy}
 use Rattle.outside.specs.Going.{goes_on_onward}
 use Rattle.outside.specs.Honest.{count_told}
 use Rattle.outside.specs.Trace.{Call}
 use Rattle.outside.specs.declared.keeper.Keeper.{Ghosts as KeeperGhosts}
-use Rattle.run_edges.specs.Statuses.{session_status}
+use Rattle.session_runs.specs.run_edges.Statuses.{session_status}
 use Rattle.run_status.specs.declared.ended.Ended.{Ended}
-use Rattle.session_lines.specs.declared.end.End.{End}
+use Rattle.session_runs.specs.session_lines.declared.end.End.{End}
 use Rattle.session_runs.proofs.Whole.{each_before, only_one, directory_rose, state_rose, directory_still, state_still}
 use Rattle.session_runs.specs.Passing.{MountKeeps}
 use Rattle.session_runs.specs.Runs.{Outside, outside_of, OutsideStandsFor, OpensTo, IsFounded, IsMigrationRun, forgeries, lies}
 use Rattle.session_runs.specs.Turns.{Begun, Closing}
-use Rattle.session_saver.specs.Saving.{KeptConfigures}
-use Rattle.session_saver.specs.declared.saver.SyncError.{SyncError}
-use Rattle.store_api.specs.Durables.{Identity}
-use Rattle.mount_core.specs.Showing.{ShowsFiles}
+use Rattle.session_runs.specs.session_saver.Saving.{KeptConfigures}
+use Rattle.session_runs.specs.session_saver.declared.saver.SyncError.{SyncError}
+use Rattle.session_runs.specs.store_api.Durables.{Identity}
+use Rattle.session_runs.specs.mount_core.Showing.{ShowsFiles}
 use Rattle.cryfs_setup.specs.Migrate.{IsCount, IsSpentIn, LeavesMigrated}
 
 true_is_false : true ≡ false → ⊥

@@ -4,9 +4,9 @@ use Rattle.std.specs.Prelude.{unwrap_or}
 use Rattle.std.specs.Option.{option_copied}
 use Rattle.std.specs.declared.option.Option.{Option}
 use Rattle.std.specs.declared.option.Option.TheVariants.{None, Some}
-use Rattle.line_io.specs.Reading.{Reading, coming}
-use Rattle.line_io.specs.Streams.{Stream}
-use Rattle.passwords.specs.Passwords.{PasswordRead, PasswordUnread, PasswordsRead, PasswordsUnread}
+use Rattle.session_runs.specs.line_io.Reading.{Reading, coming}
+use Rattle.session_runs.specs.line_io.Streams.{Stream}
+use Rattle.session_runs.specs.passwords.Passwords.{PasswordRead, PasswordUnread, PasswordsRead, PasswordsUnread}
 use Rattle.session_runs.specs.Openings.{HasCauses, HasPassword, HasPasswords}
 use Rattle.run_status.specs.declared.status.Status.{Status}
 use Rattle.run_status.specs.declared.status.Status.TheVariants.{LongPassword, InputFault, Memory}

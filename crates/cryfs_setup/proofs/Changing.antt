@@ -4,29 +4,29 @@ use Rattle.std.specs.Prelude.{Result, IsOk, IsErrOf, OnOk, is_some}
 use Rattle.std.specs.declared.option.Option.{Option}
 use Rattle.std.specs.declared.result.Result.TheVariants.{Ok, Err}
 use Rattle.rand_core.specs.Stream.{Stream as Chance}
-use Rattle.answers.specs.Sessions.{Exchange}
-use Rattle.store_api.specs.Durables.{Identity}
-use Rattle.config_file.specs.ConfigOf.{IsOnly, opened}
-use Rattle.config_file.specs.Settings.{settings_of}
+use Rattle.session_runs.specs.answers.Sessions.{Exchange}
+use Rattle.session_runs.specs.store_api.Durables.{Identity}
+use Rattle.session_runs.specs.config_file.ConfigOf.{IsOnly, opened}
+use Rattle.session_runs.specs.config_file.Settings.{settings_of}
 use Rattle.fs_model.specs.Tree.{Tree}
-use Rattle.held_blocks.specs.Standing.{records}
-use Rattle.line_io.specs.Streams.{Stream}
-use Rattle.mount_tower.specs.Drawing.{seal_drawn}
-use Rattle.config_file.specs.Sealing.{sealed_file}
-use Rattle.mount_tower.specs.Identities.{HasEmptyList}
-use Rattle.mount.specs.Tower.{tower, TowerStands, TowerConfigures}
-use Rattle.mount_tower.specs.Tower.{tower_holdings, tower_durables}
-use Rattle.mount.specs.declared.mount.Mount.{Mount}
-use Rattle.mount_core.specs.Configuring.{ConfigClosed, KeptOneOf, Replaced}
-use Rattle.mount_core.specs.Formats.{StaysLeast}
-use Rattle.mount_core.specs.Keeping.{IsSameOrWaiting, ReplaceKeeps}
-use Rattle.mount_core.specs.Standing.{IsKeptMarked, Synced}
+use Rattle.session_runs.specs.held_blocks.Standing.{records}
+use Rattle.session_runs.specs.line_io.Streams.{Stream}
+use Rattle.session_runs.specs.mount_tower.Drawing.{seal_drawn}
+use Rattle.session_runs.specs.config_file.Sealing.{sealed_file}
+use Rattle.session_runs.specs.mount_tower.Identities.{HasEmptyList}
+use Rattle.session_runs.specs.mount.Tower.{tower, TowerStands, TowerConfigures}
+use Rattle.session_runs.specs.mount_tower.Tower.{tower_holdings, tower_durables}
+use Rattle.session_runs.specs.mount.declared.mount.Mount.{Mount}
+use Rattle.session_runs.specs.mount_core.Configuring.{ConfigClosed, KeptOneOf, Replaced}
+use Rattle.session_runs.specs.mount_core.Formats.{StaysLeast}
+use Rattle.session_runs.specs.mount_core.Keeping.{IsSameOrWaiting, ReplaceKeeps}
+use Rattle.session_runs.specs.mount_core.Standing.{IsKeptMarked, Synced}
 use Rattle.outside.specs.Causes.{RoseBy}
 use Rattle.outside.specs.Going.{GoesOn}
 use Rattle.outside.specs.Trace.{Call}
 use Rattle.outside.specs.declared.keeper.Keeper.{Ghosts as KeeperGhosts}
 use Rattle.session_runs.specs.Openings.{HasCauses}
-use Rattle.run_edges.specs.Statuses.{closing_status}
+use Rattle.session_runs.specs.run_edges.Statuses.{closing_status}
 use Rattle.run_status.specs.declared.ended.Ended.{Ended}
 use Rattle.run_status.specs.declared.status.Status.{Status}
 use Rattle.run_status.specs.declared.status.Status.TheVariants.{DirectoryFault, StateFault}
@@ -37,10 +37,10 @@ use Rattle.session_runs.specs.Turns.{Begun, Closing}
 use Rattle.session_runs.proofs.Keeping.{kept_by, kept_since}
 use Rattle.session_runs.specs.Causes.{VersionsSince}
 use Rattle.session_runs.specs.Passing.{KeptAfter}
-use Rattle.session_saver.specs.Saving.{KeptConfigures, UnlessDirectory, UnlessState}
-use Rattle.session_saver.specs.declared.saver.SyncError.{SyncError}
-use Rattle.session_saver.specs.declared.saver.SyncError.TheVariants as sync_error
-use Rattle.mount_core.specs.Showing.{ShowsFiles}
+use Rattle.session_runs.specs.session_saver.Saving.{KeptConfigures, UnlessDirectory, UnlessState}
+use Rattle.session_runs.specs.session_saver.declared.saver.SyncError.{SyncError}
+use Rattle.session_runs.specs.session_saver.declared.saver.SyncError.TheVariants as sync_error
+use Rattle.session_runs.specs.mount_core.Showing.{ShowsFiles}
 use Rattle.cryfs_setup.specs.Passwd.{IsChanged, NewOpens}
 use Rattle.setup_texts.specs.PasswdText.{Reports, changed_text}
 use Rattle.cryfs_setup.proofs.Closing.{attached_on, calls_on, config_is, config_ok, quiet, told_on}

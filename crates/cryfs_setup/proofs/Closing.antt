@@ -4,34 +4,34 @@ use Rattle.std.specs.Prelude.{Result, is_some, IsOk}
 use Rattle.std.specs.declared.option.Option.{Option}
 use Rattle.std.specs.declared.option.Option.TheVariants.{None, Some}
 use Rattle.std.specs.declared.result.Result.TheVariants.{Ok, Err}
-use Rattle.config_file.specs.Settings.{Settings, settings_of}
-use Rattle.config_file.specs.declared.config.Opened.{Opened}
+use Rattle.session_runs.specs.config_file.Settings.{Settings, settings_of}
+use Rattle.session_runs.specs.config_file.declared.config.Opened.{Opened}
 use Rattle.fs_model.specs.Tree.{Tree}
-use Rattle.held_blocks.specs.Standing.{records}
-use Rattle.mount.specs.declared.mount.Mount.{Mount}
-use Rattle.mount.specs.Answering.{store_of, kept_of}
-use Rattle.mount.specs.Mounts.{MountClosed, Attached}
-use Rattle.mount.specs.Representing.{Represents}
-use Rattle.mount.specs.Tower.{tower, TowerStands}
-use Rattle.mount.proofs.Reading.{represents_told}
-use Rattle.mount_core.specs.Configuring.{ConfigClosed}
-use Rattle.mount_core.specs.Formats.{StaysLeast}
-use Rattle.mount_core.specs.Standing.{IsKeptMarked}
-use Rattle.mount_tower.specs.Tower.{tower_durables}
+use Rattle.session_runs.specs.held_blocks.Standing.{records}
+use Rattle.session_runs.specs.mount.declared.mount.Mount.{Mount}
+use Rattle.session_runs.specs.mount.Answering.{store_of, kept_of}
+use Rattle.session_runs.specs.mount.Mounts.{MountClosed, Attached}
+use Rattle.session_runs.specs.mount.Representing.{Represents}
+use Rattle.session_runs.specs.mount.Tower.{tower, TowerStands}
+use Rattle.session_runs.proofs.mount_lemmas.Reading.{represents_told}
+use Rattle.session_runs.specs.mount_core.Configuring.{ConfigClosed}
+use Rattle.session_runs.specs.mount_core.Formats.{StaysLeast}
+use Rattle.session_runs.specs.mount_core.Standing.{IsKeptMarked}
+use Rattle.session_runs.specs.mount_tower.Tower.{tower_durables}
 use Rattle.outside.specs.Changes.{change_at}
 use Rattle.outside.specs.Going.{GoesOn, goes_on_onward, goes_on_call, goes_on_equal, goes_on_writes}
 use Rattle.outside.specs.Trace.{Call, config, got}
 use Rattle.outside.specs.Writes.{after_writes}
-use Rattle.redo_vault.specs.Redo.{Gave}
+use Rattle.session_runs.specs.redo_vault.Redo.{Gave}
 use Rattle.outside.specs.declared.keeper.Keeper.{Ghosts as KeeperGhosts}
 use Rattle.session_runs.specs.Answering.{calls_of}
 use Rattle.session_runs.specs.Runs.{Outside, outside_of, OutsideStandsFor, OpensTo, IsQuietRun}
 use Rattle.session_runs.specs.Turns.{Begun, Closing}
 use Rattle.session_runs.proofs.Formats.{taken}
 use Rattle.session_runs.proofs.Whole.{each_before}
-use Rattle.session_saver.specs.Saving.{KeptConfigures}
-use Rattle.session_saver.specs.declared.saver.SyncError.{SyncError}
-use Rattle.mount_core.specs.Showing.{ShowsFiles}
+use Rattle.session_runs.specs.session_saver.Saving.{KeptConfigures}
+use Rattle.session_runs.specs.session_saver.declared.saver.SyncError.{SyncError}
+use Rattle.session_runs.specs.mount_core.Showing.{ShowsFiles}
 
 pub config_ok : (kept : Option (List ℕ)) (calls : Option (List Call)) (may : List (List ℕ)) (file : List ℕ) (closing : Result Unit SyncError) → IsOk closing → ConfigClosed records kept calls may file closing
     → KeptConfigures records kept calls file

@@ -4,14 +4,14 @@ use Rattle.std.specs.Prelude.{Result, IfErr}
 use Rattle.std.specs.declared.option.Option.{Option}
 use Rattle.std.specs.declared.result.Result.TheVariants.{Ok, Err}
 use Rattle.block_id.specs.declared.id.BlockId.{BlockId}
-use Rattle.line_io.specs.Streams.{Stream}
-use Rattle.mount_tower.specs.declared.error.OpenError.{OpenError}
-use Rattle.mount_tower.specs.declared.error.OpenError.TheVariants as open_error
-use Rattle.mount_tower.specs.Making.{CreateCause}
+use Rattle.session_runs.specs.line_io.Streams.{Stream}
+use Rattle.session_runs.specs.mount_tower.declared.error.OpenError.{OpenError}
+use Rattle.session_runs.specs.mount_tower.declared.error.OpenError.TheVariants as open_error
+use Rattle.session_runs.specs.mount_tower.Making.{CreateCause}
 use Rattle.outside.specs.Causes.{RoseBy}
 use Rattle.outside.specs.Trace.{Call}
 use Rattle.session_runs.specs.Openings.{HasCauses}
-use Rattle.run_edges.specs.Statuses.{opening_status}
+use Rattle.session_runs.specs.run_edges.Statuses.{opening_status}
 use Rattle.run_status.specs.declared.status.Status.{Status}
 use Rattle.run_status.specs.declared.status.Status.TheVariants.{DirectoryFault, StateFault}
 use Rattle.setup_texts.specs.CreateText.{Reports, created_text}

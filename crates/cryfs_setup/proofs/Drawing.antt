@@ -2,18 +2,18 @@
 use Rattle.std.proofs.Common.{◌≡◌, ◌++◌, ℕ, false, List, [], sym, ◌∙◌, subst, inl, inr}
 use Rattle.std.specs.declared.option.Option.{Option}
 use Rattle.std.specs.declared.option.Option.TheVariants.{Some}
-use Rattle.answers.specs.declared.answer.Answer.{Answer}
-use Rattle.answers.specs.Sessions.{is_violation}
-use Rattle.mount.specs.declared.mount.Mount.{Mount}
-use Rattle.mount.specs.Answering.{kept_of}
-use Rattle.mount.specs.Sealing.{Draw, HoldsSealed, View, AreSealed, view_of}
-use Rattle.mount.specs.SealingLaws.{holds_marked, holds_more, holds_then, seals_then, vectors_then}
+use Rattle.session_runs.specs.answers.declared.answer.Answer.{Answer}
+use Rattle.session_runs.specs.answers.Sessions.{is_violation}
+use Rattle.session_runs.specs.mount.declared.mount.Mount.{Mount}
+use Rattle.session_runs.specs.mount.Answering.{kept_of}
+use Rattle.session_runs.specs.mount.Sealing.{Draw, HoldsSealed, View, AreSealed, view_of}
+use Rattle.session_runs.specs.mount.SealingLaws.{holds_marked, holds_more, holds_then, seals_then, vectors_then}
 use Rattle.mount_calls.specs.Sealing.{StaysOrSealed, SealsAnew}
 use Rattle.outside.specs.Trace.{Call}
 use Rattle.outside.specs.declared.keeper.Keeper.{Ghosts as KeeperGhosts}
 use Rattle.rand_core.specs.Stream.{Stream}
 use Rattle.session_runs.proofs.Drawing.{KnownSoFar, SealedSoFar}
-use Rattle.store_api.specs.Durables.{with_mark}
+use Rattle.session_runs.specs.store_api.Durables.{with_mark}
 
 kept_then : (x y : List Draw) (a b : View) (was kept : Option (List ℕ)) → AreSealed x a b → HoldsSealed x a.list was → StaysOrSealed y b.list was kept → HoldsSealed (x ++ y) a.list kept
 kept_then x y a b was kept sealed k (inl same) = subst (HoldsSealed (x ++ y) a.list) (sym same) (holds_more x y a.list was k)

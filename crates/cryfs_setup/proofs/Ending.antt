@@ -2,12 +2,12 @@
 use Rattle.std.proofs.Common.{◌≡◌, refl, sym, ◌∙◌, ap, subst}
 use Rattle.std.specs.Prelude.{Result, IsOk}
 use Rattle.std.specs.declared.result.Result.TheVariants.{Ok, Err}
-use Rattle.line_io.specs.Streams.{Stream}
-use Rattle.run_edges.specs.Statuses.{closing_status}
+use Rattle.session_runs.specs.line_io.Streams.{Stream}
+use Rattle.session_runs.specs.run_edges.Statuses.{closing_status}
 use Rattle.run_status.specs.declared.status.Status.{Status}
 use Rattle.run_status.specs.Statuses.{first_of}
-use Rattle.session_saver.specs.declared.saver.SyncError.{SyncError}
-use Rattle.session_saver.specs.declared.saver.SyncError.TheVariants.{Memory, FaultDirectory, FaultState}
+use Rattle.session_runs.specs.session_saver.declared.saver.SyncError.{SyncError}
+use Rattle.session_runs.specs.session_saver.declared.saver.SyncError.TheVariants.{Memory, FaultDirectory, FaultState}
 use Rattle.setup_texts.specs.PasswdText.{Reports, changed_text}
 use Rattle.setup_texts.specs.Printing.{Printed}
 use Rattle.cryfs_setup.proofs.Telling.{closed_well}

@@ -3,17 +3,17 @@ use Rattle.std.proofs.Common.{◌≡◌, ◌≤◌, ℕ, false, List, [], ◌∷
 use Rattle.std.specs.Prelude.{Result, IsOk}
 use Rattle.std.specs.declared.option.Option.{Option}
 use Rattle.std.specs.declared.result.Result.TheVariants.{Ok, Err}
-use Rattle.config_file.specs.Settings.{settings_of}
-use Rattle.held_blocks.specs.Standing.{records}
-use Rattle.line_io.specs.Streams.{Stream}
-use Rattle.mount.specs.declared.mount.Mount.{Mount}
-use Rattle.mount.specs.Mounts.{Attached}
-use Rattle.mount_core.specs.Standing.{IsKeptMarked}
+use Rattle.session_runs.specs.config_file.Settings.{settings_of}
+use Rattle.session_runs.specs.held_blocks.Standing.{records}
+use Rattle.session_runs.specs.line_io.Streams.{Stream}
+use Rattle.session_runs.specs.mount.declared.mount.Mount.{Mount}
+use Rattle.session_runs.specs.mount.Mounts.{Attached}
+use Rattle.session_runs.specs.mount_core.Standing.{IsKeptMarked}
 use Rattle.outside.specs.Going.{goes_on_same}
 use Rattle.outside.specs.Trace.{Call}
 use Rattle.outside.specs.declared.keeper.Keeper.{Ghosts as KeeperGhosts}
 use Rattle.session_runs.specs.Openings.{HasCauses}
-use Rattle.run_edges.specs.Statuses.{closing_status}
+use Rattle.session_runs.specs.run_edges.Statuses.{closing_status}
 use Rattle.run_status.specs.declared.ended.Ended.{Ended}
 use Rattle.run_status.specs.declared.status.Status.{Status}
 use Rattle.run_status.specs.declared.status.Status.TheVariants.{Done, OutputFault}
@@ -21,9 +21,9 @@ use Rattle.run_status.specs.Statuses.{first_of}
 use Rattle.session_runs.specs.Answering.{calls_of, kept_of}
 use Rattle.session_runs.specs.Runs.{outside_of}
 use Rattle.session_runs.specs.Turns.{Begun, Closing}
-use Rattle.session_saver.specs.Saving.{UnlessDirectory, UnlessState}
-use Rattle.session_saver.specs.declared.saver.SyncError.{SyncError}
-use Rattle.mount_core.specs.Showing.{ShowsFiles}
+use Rattle.session_runs.specs.session_saver.Saving.{UnlessDirectory, UnlessState}
+use Rattle.session_runs.specs.session_saver.declared.saver.SyncError.{SyncError}
+use Rattle.session_runs.specs.mount_core.Showing.{ShowsFiles}
 use Rattle.cryfs_setup.specs.Info.{IsConfigTold}
 use Rattle.setup_texts.specs.InfoText.{info_text}
 use Rattle.setup_texts.specs.Printing.{Printed}

@@ -4,21 +4,21 @@ use Rattle.std.specs.declared.option.Option.{Option}
 use Rattle.std.specs.declared.option.Option.TheVariants.{None}
 use Rattle.block_id.specs.declared.id.BlockId.{BlockId}
 use Rattle.scrypt_kdf.specs.Cost.{Cost}
-use Rattle.config_file.specs.ConfigOf.{IsOnly, opened}
-use Rattle.line_io.specs.Streams.{Stream}
-use Rattle.mount_tower.specs.declared.draws.Draws.{Draws}
-use Rattle.mount_tower.specs.declared.error.OpenError.{OpenError}
+use Rattle.session_runs.specs.config_file.ConfigOf.{IsOnly, opened}
+use Rattle.session_runs.specs.line_io.Streams.{Stream}
+use Rattle.session_runs.specs.mount_tower.declared.draws.Draws.{Draws}
+use Rattle.session_runs.specs.mount_tower.declared.error.OpenError.{OpenError}
 use Rattle.mount_calls.specs.Migrating.{KeepsNewest}
-use Rattle.mount.specs.Making.{Created as Made, HasClient, HasSalt, KnowsOnly, MakesOnlyAnew, TellsMade}
-use Rattle.config_file.specs.Sealing.{sealed_file}
-use Rattle.mount_tower.specs.Making.{IsUnchanged, new_settings, root_of}
+use Rattle.session_runs.specs.mount.Making.{Created as Made, HasClient, HasSalt, KnowsOnly, MakesOnlyAnew, TellsMade}
+use Rattle.session_runs.specs.config_file.Sealing.{sealed_file}
+use Rattle.session_runs.specs.mount_tower.Making.{IsUnchanged, new_settings, root_of}
 use Rattle.outside.specs.Trace.{Call}
 use Rattle.outside.specs.declared.keeper.Keeper.{Ghosts as KeeperGhosts}
-use Rattle.passwords.specs.Passwords.{PasswordUnread}
+use Rattle.session_runs.specs.passwords.Passwords.{PasswordUnread}
 use Rattle.session_runs.specs.Openings.{HasPassword, IsUnread}
 use Rattle.run_status.specs.declared.ended.Ended.{Ended}
-use Rattle.session_lines.specs.Driven.{IsUnfailed}
-use Rattle.mount_core.specs.Showing.{ShowsFiles}
+use Rattle.session_runs.specs.session_lines.Driven.{IsUnfailed}
+use Rattle.session_runs.specs.mount_core.Showing.{ShowsFiles}
 use Rattle.setup_texts.specs.CreateText.{Reports}
 
 -- A file system of this cost and block size was made under the password, of what was drawn, or it wasn't by an error.

@@ -1,22 +1,22 @@
 -- What `info` does.
 use Rattle.std.specs.Prelude.{◌≡◌, ◌⊎◌, ℕ, List}
 use Rattle.std.specs.declared.option.Option.{Option}
-use Rattle.config_file.specs.Settings.{Settings, settings_of}
-use Rattle.config_file.specs.declared.config.Opened.{Opened}
+use Rattle.session_runs.specs.config_file.Settings.{Settings, settings_of}
+use Rattle.session_runs.specs.config_file.declared.config.Opened.{Opened}
 use Rattle.fs_model.specs.Tree.{Tree}
-use Rattle.held_blocks.specs.Standing.{records}
-use Rattle.line_io.specs.Streams.{Stream, Untouched}
-use Rattle.mount.specs.Mounts.{Attached}
-use Rattle.mount_tower.specs.declared.error.OpenError.{OpenError}
-use Rattle.mount_core.specs.Standing.{IsKeptMarked}
+use Rattle.session_runs.specs.held_blocks.Standing.{records}
+use Rattle.session_runs.specs.line_io.Streams.{Stream, Untouched}
+use Rattle.session_runs.specs.mount.Mounts.{Attached}
+use Rattle.session_runs.specs.mount_tower.declared.error.OpenError.{OpenError}
+use Rattle.session_runs.specs.mount_core.Standing.{IsKeptMarked}
 use Rattle.outside.specs.Trace.{Call}
 use Rattle.outside.specs.declared.keeper.Keeper.{Ghosts as KeeperGhosts}
-use Rattle.passwords.specs.Passwords.{PasswordUnread}
+use Rattle.session_runs.specs.passwords.Passwords.{PasswordUnread}
 use Rattle.session_runs.specs.Openings.{HasPassword, IsUnread, IsUnopened, StayOpen}
 use Rattle.run_status.specs.declared.ended.Ended.{Ended}
-use Rattle.session_lines.specs.Driven.{IsUnfailed}
+use Rattle.session_runs.specs.session_lines.Driven.{IsUnfailed}
 use Rattle.session_runs.specs.Runs.{outside_of, OpensTo, IsQuietRun}
-use Rattle.mount_core.specs.Showing.{ShowsFiles}
+use Rattle.session_runs.specs.mount_core.Showing.{ShowsFiles}
 use Rattle.setup_texts.specs.InfoText.{info_text}
 use Rattle.setup_texts.specs.Printing.{Printed}
 

@@ -2,35 +2,35 @@
 use Rattle.std.specs.Prelude.{◌≡◌, ◌⊎◌, ℕ, ◌+◌, true, false, List, Result, length, IfOk, IsOk, OnOk}
 use Rattle.std.specs.FinMap as fin
 use Rattle.std.specs.declared.option.Option.{Option}
-use Rattle.answers.specs.Sessions.{is_violation, directory_faults, state_faults}
-use Rattle.config_file.specs.Settings.{Settings, settings_of}
+use Rattle.session_runs.specs.answers.Sessions.{is_violation, directory_faults, state_faults}
+use Rattle.session_runs.specs.config_file.Settings.{Settings, settings_of}
 use Rattle.fs_model.specs.Tree.{Tree}
-use Rattle.held_blocks.specs.Standing.{records}
-use Rattle.held_blocks.specs.Stores.{version_in}
-use Rattle.line_io.specs.Streams.{Stream, Untouched}
-use Rattle.local_state.specs.Known.{live_ids}
-use Rattle.local_state.specs.Record.{PlainState}
-use Rattle.mount.specs.declared.mount.Mount.{Mount}
+use Rattle.session_runs.specs.held_blocks.Standing.{records}
+use Rattle.session_runs.specs.held_blocks.Stores.{version_in}
+use Rattle.session_runs.specs.line_io.Streams.{Stream, Untouched}
+use Rattle.session_runs.specs.local_state.Known.{live_ids}
+use Rattle.session_runs.specs.local_state.Record.{PlainState}
+use Rattle.session_runs.specs.mount.declared.mount.Mount.{Mount}
 use Rattle.mount_calls.specs.Migrating.{KeepsNewest, MigratesMount}
-use Rattle.mount_core.specs.Answers.{OnSpent}
-use Rattle.mount_core.specs.Standing.{IsKeptMarked}
-use Rattle.mount_migrating.specs.Migrating.{told}
-use Rattle.mount_migrating.specs.declared.error.MigrateError.{MigrateError}
-use Rattle.mount_tower.specs.declared.error.OpenError.{OpenError}
+use Rattle.session_runs.specs.mount_core.Answers.{OnSpent}
+use Rattle.session_runs.specs.mount_core.Standing.{IsKeptMarked}
+use Rattle.mount_calls.specs.mount_migrating.Migrating.{told}
+use Rattle.mount_calls.specs.mount_migrating.declared.error.MigrateError.{MigrateError}
+use Rattle.session_runs.specs.mount_tower.declared.error.OpenError.{OpenError}
 use Rattle.outside.specs.Causes.{RoseBy}
 use Rattle.outside.specs.Trace.{Call}
 use Rattle.outside.specs.declared.keeper.Keeper.{Ghosts as KeeperGhosts}
-use Rattle.passwords.specs.Passwords.{PasswordUnread}
-use Rattle.run_edges.specs.Statuses.{session_status}
+use Rattle.session_runs.specs.passwords.Passwords.{PasswordUnread}
+use Rattle.session_runs.specs.run_edges.Statuses.{session_status}
 use Rattle.run_status.specs.declared.ended.Ended.{Ended}
-use Rattle.session_lines.specs.Driven.{IsUnfailed, Reported}
-use Rattle.session_lines.specs.declared.end.End.{End}
+use Rattle.session_runs.specs.session_lines.Driven.{IsUnfailed, Reported}
+use Rattle.session_runs.specs.session_lines.declared.end.End.{End}
 use Rattle.session_runs.specs.Openings.{HasPassword, IsUnread, IsUnopened, StayOpen}
 use Rattle.session_runs.specs.Runs.{outside_of, OpensTo, IsMigrationRun, directory_fault, state_fault}
 use Rattle.session_runs.specs.Turns.{Begun, Closing}
-use Rattle.session_saver.specs.declared.saver.SyncError.{SyncError}
-use Rattle.store_api.specs.Holdings.{has_id}
-use Rattle.mount_core.specs.Showing.{ShowsFiles}
+use Rattle.session_runs.specs.session_saver.declared.saver.SyncError.{SyncError}
+use Rattle.session_runs.specs.store_api.Holdings.{has_id}
+use Rattle.session_runs.specs.mount_core.Showing.{ShowsFiles}
 use Rattle.setup_texts.specs.MigrateText.{migrated_text}
 
 -- of a record with this state: as many as its live ids, where it took the older format, and else none

@@ -2,31 +2,31 @@
 use Rattle.std.specs.Prelude.{◌≡◌, ◌⊎◌, ℕ, ◌+◌, true, List, [], Result, is_some, IsOk, OnOk}
 use Rattle.std.specs.declared.option.Option.{Option}
 use Rattle.rand_core.specs.Stream.{Stream as Chance}
-use Rattle.config_file.specs.ConfigOf.{IsOnly, opened}
-use Rattle.config_file.specs.Settings.{Settings, settings_of}
-use Rattle.config_file.specs.declared.config.Opened.{Opened}
+use Rattle.session_runs.specs.config_file.ConfigOf.{IsOnly, opened}
+use Rattle.session_runs.specs.config_file.Settings.{Settings, settings_of}
+use Rattle.session_runs.specs.config_file.declared.config.Opened.{Opened}
 use Rattle.fs_model.specs.Tree.{Tree}
-use Rattle.held_blocks.specs.Standing.{records}
-use Rattle.line_io.specs.Streams.{Stream, Untouched}
-use Rattle.mount_tower.specs.Drawing.{seal_drawn}
-use Rattle.config_file.specs.Sealing.{sealed_file}
-use Rattle.mount_tower.specs.Identities.{HasEmptyList}
-use Rattle.mount_tower.specs.declared.error.OpenError.{OpenError}
-use Rattle.mount_core.specs.Standing.{IsKeptMarked}
+use Rattle.session_runs.specs.held_blocks.Standing.{records}
+use Rattle.session_runs.specs.line_io.Streams.{Stream, Untouched}
+use Rattle.session_runs.specs.mount_tower.Drawing.{seal_drawn}
+use Rattle.session_runs.specs.config_file.Sealing.{sealed_file}
+use Rattle.session_runs.specs.mount_tower.Identities.{HasEmptyList}
+use Rattle.session_runs.specs.mount_tower.declared.error.OpenError.{OpenError}
+use Rattle.session_runs.specs.mount_core.Standing.{IsKeptMarked}
 use Rattle.outside.specs.Trace.{Call}
 use Rattle.outside.specs.declared.keeper.Keeper.{Ghosts as KeeperGhosts}
-use Rattle.passwords.specs.Passwords.{PasswordsUnread}
+use Rattle.session_runs.specs.passwords.Passwords.{PasswordsUnread}
 use Rattle.session_runs.specs.Causes.{VersionsSince}
 use Rattle.session_runs.specs.Openings.{HasPasswords, IsUnread, IsUnopened}
-use Rattle.run_edges.specs.Statuses.{closing_status}
+use Rattle.session_runs.specs.run_edges.Statuses.{closing_status}
 use Rattle.run_status.specs.declared.ended.Ended.{Ended}
 use Rattle.run_status.specs.declared.status.Status.{Status}
 use Rattle.run_status.specs.Statuses.{first_of}
-use Rattle.session_lines.specs.Driven.{IsUnfailed}
+use Rattle.session_runs.specs.session_lines.Driven.{IsUnfailed}
 use Rattle.session_runs.specs.Runs.{Outside, outside_of, OpensTo, WasAttached, IsQuietRun, directory_fault, state_fault}
-use Rattle.session_saver.specs.Saving.{KeptConfigures}
-use Rattle.session_saver.specs.declared.saver.SyncError.{SyncError}
-use Rattle.mount_core.specs.Showing.{ShowsFiles}
+use Rattle.session_runs.specs.session_saver.Saving.{KeptConfigures}
+use Rattle.session_runs.specs.session_saver.declared.saver.SyncError.{SyncError}
+use Rattle.session_runs.specs.mount_core.Showing.{ShowsFiles}
 use Rattle.setup_texts.specs.PasswdText.{Reports}
 
 -- the configuration's file holds this text, which opens under the new password and nothing else, to what was opened

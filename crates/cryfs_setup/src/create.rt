@@ -1,18 +1,18 @@
 // `create`: makes a file system.
 ghost use Rattle.std.specs.Prelude.{◌≤◌};
-ghost use Rattle.config_file.specs.Settings.{IsBlockSize};
-ghost use Rattle.line_io.specs.Streams.{stream_of};
-ghost use Rattle.mount_tower.specs.Drawing.{drawn};
+ghost use Rattle.session_runs.specs.config_file.Settings.{IsBlockSize};
+ghost use Rattle.session_runs.specs.line_io.Streams.{stream_of};
+ghost use Rattle.session_runs.specs.mount_tower.Drawing.{drawn};
 ghost use Rattle.session_runs.specs.Openings.{HasCauses};
 ghost use Rattle.session_runs.specs.Runs.{outside_of};
 ghost use Rattle.cryfs_setup.specs.Create.{RanCreate, IsCreated};
 
 use mount_calls::create;
 use outside::{Keeper, Sink, Source, Vault};
-use passwords::read_password;
 use rand_core::Rng;
 use run_status::{Ended, Storage};
 use scrypt_kdf::Params;
+use session_runs::passwords::read_password;
 use setup_texts::report_created;
 use std::alloc::Global;
 

@@ -1,14 +1,14 @@
 // `info`: tells what a file system is made of.
 ghost use Rattle.std.specs.Prelude.{◌≡◌, ◌≤◌, [], vec_capacity};
-ghost use Rattle.line_io.specs.Streams.{stream_of};
+ghost use Rattle.session_runs.specs.line_io.Streams.{stream_of};
 ghost use Rattle.session_runs.specs.Runs.{outside_of};
 ghost use Rattle.session_runs.specs.Openings.{HasCauses};
 ghost use Rattle.cryfs_setup.specs.Info.{Told, ToldUnder};
 
 use crate::opening::{end_run, open};
 use outside::{Keeper, Sink, Source, Vault};
-use passwords::read_password;
 use run_status::{Ended, Status, Storage};
+use session_runs::passwords::read_password;
 use setup_texts::{MAX_TEXT, print_info};
 use std::alloc::Global;
 

@@ -1,6 +1,6 @@
 // `migrate`: writes the blocks of a file system anew in the newest format.
 ghost use Rattle.std.specs.Prelude.{◌≡◌, ◌≤◌, [], vec_capacity};
-ghost use Rattle.line_io.specs.Streams.{stream_of};
+ghost use Rattle.session_runs.specs.line_io.Streams.{stream_of};
 ghost use Rattle.session_runs.specs.Drawing.{DrawsNoNames};
 ghost use Rattle.session_runs.specs.Runs.{outside_of};
 ghost use Rattle.cryfs_setup.specs.Migrate.{RanMigrate, MigratedUnder};
@@ -8,9 +8,9 @@ ghost use Rattle.cryfs_setup.specs.Migrate.{RanMigrate, MigratedUnder};
 use crate::opening::{end_session, open};
 use mount_calls::migrate;
 use outside::{Keeper, Sink, Source, Vault};
-use passwords::read_password;
 use rand_core::Rng;
 use run_status::{Ended, Status, Storage};
+use session_runs::passwords::read_password;
 use setup_texts::{MAX_TEXT, print_migrated};
 use std::alloc::Global;
 

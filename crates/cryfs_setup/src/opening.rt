@@ -1,26 +1,26 @@
 // Opening and closing, as a run beside sessions does it.
 ghost use Rattle.std.specs.Prelude.{◌≡◌, Result, IfOk, IfErr};
-ghost use Rattle.held_blocks.specs.Standing.{records};
-ghost use Rattle.mount.specs.Mounts.{IsReady};
-ghost use Rattle.mount.specs.Sealing.{OpensSealed, view_of};
-ghost use Rattle.mount_tower.specs.declared.error.OpenError.{OpenError};
-ghost use Rattle.mount_core.specs.Standing.{IsKeptMarked};
+ghost use Rattle.session_runs.specs.held_blocks.Standing.{records};
+ghost use Rattle.session_runs.specs.mount.Mounts.{IsReady};
+ghost use Rattle.session_runs.specs.mount.Sealing.{OpensSealed, view_of};
+ghost use Rattle.session_runs.specs.mount_tower.declared.error.OpenError.{OpenError};
+ghost use Rattle.session_runs.specs.mount_core.Standing.{IsKeptMarked};
 ghost use Rattle.rand_core.specs.Stream.{Stream};
 ghost use Rattle.session_runs.specs.Drawing.{DrawsNoNames};
 ghost use Rattle.session_runs.specs.Runs.{outside_of};
 ghost use Rattle.run_status.specs.Statuses.{first_of};
 ghost use Rattle.session_runs.specs.Turns.{Begun, Closing};
-ghost use Rattle.session_saver.specs.declared.saver.SyncError.{SyncError};
-ghost use Rattle.mount_core.specs.Showing.{ShowsFiles};
+ghost use Rattle.session_runs.specs.session_saver.declared.saver.SyncError.{SyncError};
+ghost use Rattle.session_runs.specs.mount_core.Showing.{ShowsFiles};
 ghost use Rattle.session_runs.specs.Openings.{HasCauses, IsUnopened};
-ghost use Rattle.run_edges.specs.Statuses.{closing_status, session_status};
+ghost use Rattle.session_runs.specs.run_edges.Statuses.{closing_status, session_status};
 
-use mount::{Halted, Mount};
 use mount_calls::{attach, close};
 use outside::{Keeper, Vault};
-use run_edges::{closing_status, opening_status, session_status};
 use run_status::{Ended, Status};
-use session_lines::End;
+use session_runs::mount::{Halted, Mount};
+use session_runs::run_edges::{closing_status, opening_status, session_status};
+use session_runs::session_lines::End;
 use std::alloc::Global;
 
 /// Opens the file system under the password, or ends the run.

@@ -1,6 +1,6 @@
 // `passwd`: changes the password of a file system.
 ghost use Rattle.std.specs.Prelude.{◌≤◌};
-ghost use Rattle.line_io.specs.Streams.{stream_of};
+ghost use Rattle.session_runs.specs.line_io.Streams.{stream_of};
 ghost use Rattle.session_runs.specs.Runs.{outside_of};
 ghost use Rattle.session_runs.specs.Openings.{HasCauses};
 ghost use Rattle.cryfs_setup.specs.Passwd.{RanPasswd, ChangedUnder};
@@ -8,9 +8,9 @@ ghost use Rattle.cryfs_setup.specs.Passwd.{RanPasswd, ChangedUnder};
 use crate::opening::{end_run, open};
 use mount_calls::change_password;
 use outside::{Keeper, Sink, Source, Vault};
-use passwords::{PasswordChange, read_two_passwords};
 use rand_core::Rng;
 use run_status::{Ended, Storage};
+use session_runs::passwords::{PasswordChange, read_two_passwords};
 use setup_texts::report_changed;
 use std::alloc::Global;
 

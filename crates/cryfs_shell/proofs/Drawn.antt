@@ -4,7 +4,7 @@ use Rattle.std.specs.declared.option.Option.{Option}
 use Rattle.outside.specs.Trace.{Call}
 use Rattle.outside.specs.declared.keeper.Keeper.{Ghosts as KeeperGhosts}
 use Rattle.rand_core.specs.Stream.{Stream}
-use Rattle.check_runs.proofs.session_runs.Drawing.{draws_nothing, named_nothing}
+use Rattle.check_runs.proofs.session_runs_lemmas.Drawing.{draws_nothing, named_nothing}
 use Rattle.check_runs.specs.session_runs.Drawing.{DrawsVectors, DrawsAs}
 use Rattle.check_runs.specs.session_runs.Runs.{outside_of}
 

@@ -4,20 +4,20 @@ use Rattle.std.specs.declared.option.Option.{Option}
 use Rattle.std.specs.declared.option.Option.TheVariants.{None}
 use Rattle.std.specs.declared.result.Result.{Result}
 use Rattle.std.specs.declared.result.Result.TheVariants.{Ok, Err}
-use Rattle.answers.specs.declared.answer.Answer.{Answer}
-use Rattle.answers.specs.Sessions.{Exchange}
-use Rattle.copy_rules.specs.declared.copied.Totals.{Totals}
-use Rattle.copy_rules.specs.Questions.{Question}
-use Rattle.copy_sessions.specs.Fitting.{kept_after}
-use Rattle.file_copies.specs.Coming.{IsPutTold, IsPutSession, IsGetEnd, IsGetSession}
-use Rattle.file_copies.specs.Getting.{IsGet}
-use Rattle.file_copies.specs.Putting.{InputBy}
-use Rattle.host_folder.specs.Folders.{HostPath}
-use Rattle.line_io.specs.Streams.{Stream}
-use Rattle.row_copy.specs.declared.stop.Stop.{Stop}
-use Rattle.row_copy.specs.declared.stop.Stop.TheVariants as stop
+use Rattle.plain_trials.specs.answers.declared.answer.Answer.{Answer}
+use Rattle.plain_trials.specs.answers.Sessions.{Exchange}
+use Rattle.copy_runs.specs.copy_rules.declared.copied.Totals.{Totals}
+use Rattle.copy_runs.specs.copy_rules.Questions.{Question}
+use Rattle.copy_runs.specs.copy_sessions.Fitting.{kept_after}
+use Rattle.copy_runs.specs.file_copies.Coming.{IsPutTold, IsPutSession, IsGetEnd, IsGetSession}
+use Rattle.copy_runs.specs.file_copies.Getting.{IsGet}
+use Rattle.copy_runs.specs.file_copies.Putting.{InputBy}
+use Rattle.copy_runs.specs.host_folder.Folders.{HostPath}
+use Rattle.plain_trials.specs.line_io.Streams.{Stream}
+use Rattle.copy_runs.specs.row_copy.declared.stop.Stop.{Stop}
+use Rattle.copy_runs.specs.row_copy.declared.stop.Stop.TheVariants as stop
 use Rattle.run_status.specs.declared.status.Status.{Status}
-use Rattle.session_lines.specs.declared.end.End.{End}
+use Rattle.plain_trials.specs.session_lines.declared.end.End.{End}
 use Rattle.cryfs_shell.proofs.Statuses.{EndCause}
 use Rattle.cryfs_shell.proofs.TrialEnds.{reported_cause}
 

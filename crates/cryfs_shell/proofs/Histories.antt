@@ -3,7 +3,7 @@ use Rattle.std.proofs.Common.{◌≡◌, ℕ, Bool, false, List, [], refl, sym, 
 use Rattle.std.specs.declared.option.Option.{Option}
 use Rattle.std.specs.declared.option.Option.TheVariants.{Some}
 use Rattle.rand_core.specs.Stream.{Stream as Chance}
-use Rattle.answers.specs.Sessions.{Exchange, is_violation}
+use Rattle.plain_trials.specs.answers.Sessions.{Exchange, is_violation}
 use Rattle.check_runs.specs.Judging.{is_bad}
 use Rattle.check_runs.specs.Running.{RanCheck}
 use Rattle.check_runs.specs.SurveyRuns.{RanSurvey}
@@ -14,13 +14,13 @@ use Rattle.check_runs.specs.cryfs_setup.Migrate.{RanMigrate}
 use Rattle.check_runs.specs.cryfs_setup.Passwd.{RanPasswd}
 use Rattle.fs_model.specs.Instant.{Instant}
 use Rattle.histories.specs.Histories.{Run, session, quiet, examined, migrated}
-use Rattle.line_io.specs.Streams.{Stream}
+use Rattle.plain_trials.specs.line_io.Streams.{Stream}
 use Rattle.outside.specs.Trace.{Call}
 use Rattle.outside.specs.declared.keeper.Keeper.{Ghosts as KeeperGhosts}
 use Rattle.check_runs.specs.session_runs.Openings.{AreUncalled}
 use Rattle.run_status.specs.declared.ended.Ended.{Ended}
 use Rattle.run_status.specs.declared.status.Status.{Status}
-use Rattle.session_lines.specs.declared.end.End.{End}
+use Rattle.plain_trials.specs.session_lines.declared.end.End.{End}
 use Rattle.check_runs.specs.session_runs.Runs.{Outside, outside_of, IsQuietRun}
 use Rattle.copy_runs.specs.shell_sessions.Sessions.{Session}
 use Rattle.shell_words.specs.declared.form.Form.{Form}

@@ -3,10 +3,10 @@ use Rattle.std.proofs.Common.{◌≡◌, ◌≢◌, ℕ, true, List, sym, ap, su
 use Rattle.std.specs.declared.option.Option.{Option}
 use Rattle.std.specs.declared.option.Option.TheVariants.{None, Some}
 use Rattle.fs_model.specs.Instant.{Instant}
-use Rattle.line_io.specs.Streams.{Untouched}
+use Rattle.plain_trials.specs.line_io.Streams.{Untouched}
 use Rattle.outside.specs.Trace.{Call}
 use Rattle.outside.specs.declared.keeper.Keeper.{Ghosts as KeeperGhosts}
-use Rattle.passwords.specs.Passwords.{PasswordUnread, PasswordsUnread}
+use Rattle.histories.specs.passwords.Passwords.{PasswordUnread, PasswordsUnread}
 use Rattle.run_status.specs.declared.ended.Ended.{Ended}
 use Rattle.run_status.specs.declared.status.Status.{Status}
 use Rattle.run_status.specs.declared.status.Status.TheVariants.{Done, Usage, Violation, DirectoryFault, StateFault, InputFault, OutputFault, Memory, HostFault}

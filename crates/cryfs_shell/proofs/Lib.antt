@@ -14,7 +14,7 @@ pub mod Files
 mod Idle
 mod Asked
 -- Handed on to crates above, which name their lemmas so and needn't list them.
-pub use Rattle.check_runs.proofs as check_runs
-pub use Rattle.check_runs.proofs.mount as mount
-pub use Rattle.check_runs.proofs.mount_calls as mount_calls
-pub use Rattle.check_runs.proofs.mount_tower as mount_tower
+pub use Rattle.check_runs.proofs as check_runs_lemmas
+pub use Rattle.check_runs.proofs.mount_lemmas as mount_lemmas
+pub use Rattle.check_runs.proofs.mount_calls_lemmas as mount_calls_lemmas
+pub use Rattle.check_runs.proofs.mount_tower_lemmas as mount_tower_lemmas

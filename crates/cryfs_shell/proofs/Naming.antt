@@ -5,17 +5,17 @@ use Rattle.std.specs.declared.option.Option.{Option}
 use Rattle.std.specs.declared.option.Option.TheVariants.{None, Some}
 use Rattle.std.specs.declared.result.Result.TheVariants.{Ok, Err}
 use Rattle.rand_core.specs.Stream.{Stream as Chance}
-use Rattle.answers.specs.declared.answer.Answer.{Answer}
-use Rattle.copy_rules.specs.declared.copied.Totals.{Totals}
-use Rattle.copy_rules.specs.Questions.{Question}
-use Rattle.copy_sessions.specs.Fitting.{kept_after}
-use Rattle.file_copies.specs.Coming.{IsPutTold, IsPutSession, IsGetEnd, IsGetSession}
-use Rattle.file_copies.specs.Getting.{IsGet}
-use Rattle.file_copies.specs.Putting.{InputBy}
-use Rattle.host_folder.specs.Folders.{HostPath}
-use Rattle.row_copy.specs.declared.stop.Stop.{Stop}
-use Rattle.row_copy.specs.declared.stop.Stop.TheVariants as stop
-use Rattle.answers.specs.Sessions.{Exchange, is_violation, violated}
+use Rattle.plain_trials.specs.answers.declared.answer.Answer.{Answer}
+use Rattle.copy_runs.specs.copy_rules.declared.copied.Totals.{Totals}
+use Rattle.copy_runs.specs.copy_rules.Questions.{Question}
+use Rattle.copy_runs.specs.copy_sessions.Fitting.{kept_after}
+use Rattle.copy_runs.specs.file_copies.Coming.{IsPutTold, IsPutSession, IsGetEnd, IsGetSession}
+use Rattle.copy_runs.specs.file_copies.Getting.{IsGet}
+use Rattle.copy_runs.specs.file_copies.Putting.{InputBy}
+use Rattle.copy_runs.specs.host_folder.Folders.{HostPath}
+use Rattle.copy_runs.specs.row_copy.declared.stop.Stop.{Stop}
+use Rattle.copy_runs.specs.row_copy.declared.stop.Stop.TheVariants as stop
+use Rattle.plain_trials.specs.answers.Sessions.{Exchange, is_violation, violated}
 use Rattle.check_runs.specs.mount_migrating.Migrating.{told}
 use Rattle.block_id.specs.declared.id.BlockId.{BlockId}
 use Rattle.check_runs.specs.Running.{RanCheck}
@@ -29,29 +29,29 @@ use Rattle.check_runs.specs.cryfs_setup.Migrate.{RanMigrate}
 use Rattle.check_runs.specs.cryfs_setup.Passwd.{RanPasswd}
 use Rattle.check_runs.specs.setup_texts.PasswdText.{Reports as ChangeReports}
 use Rattle.check_runs.specs.setup_texts.Printing.{Printed}
-use Rattle.check_runs.proofs.cryfs_setup.Ending.{ends}
+use Rattle.check_runs.proofs.cryfs_setup_lemmas.Ending.{ends}
 use Rattle.fs_model.specs.Instant.{Instant}
-use Rattle.line_io.specs.Streams.{Stream, Untouched}
+use Rattle.plain_trials.specs.line_io.Streams.{Stream, Untouched}
 use Rattle.check_runs.specs.mount_tower.Drawing.{drawn}
 use Rattle.check_runs.specs.mount_tower.declared.draws.Draws.{Draws}
 use Rattle.check_runs.specs.mount_tower.declared.error.OpenError.{OpenError}
 use Rattle.check_runs.specs.mount_tower.declared.error.OpenError.TheVariants.{FaultDirectory, FaultState}
 use Rattle.outside.specs.Trace.{Call}
 use Rattle.outside.specs.declared.keeper.Keeper.{Ghosts as KeeperGhosts}
-use Rattle.passwords.specs.Passwords.{PasswordUnread, PasswordsUnread}
+use Rattle.histories.specs.passwords.Passwords.{PasswordUnread, PasswordsUnread}
 use Rattle.check_runs.specs.session_runs.Openings.{AreUncalled, IsUnread, IsUnopened}
 use Rattle.run_status.specs.Statuses.{first_of}
-use Rattle.run_edges.specs.Statuses.{opening_status, closing_status, session_status}
+use Rattle.histories.specs.run_edges.Statuses.{opening_status, closing_status, session_status}
 use Rattle.run_status.specs.declared.ended.Ended.{Ended}
 use Rattle.run_status.specs.declared.status.Status.{Status}
 use Rattle.run_status.specs.declared.status.Status.TheVariants.{Done, LongPassword, DirectoryFault, StateFault, InputFault, OutputFault, Memory}
 use Rattle.scrypt_kdf.specs.Cost.{Cost}
-use Rattle.session_lines.specs.Driven.{EndsAs, Reported, IsUnfailed}
-use Rattle.session_lines.specs.declared.end.End.{End}
-use Rattle.session_lines.specs.declared.end.End.TheVariants as line_end
+use Rattle.plain_trials.specs.session_lines.Driven.{EndsAs, Reported, IsUnfailed}
+use Rattle.plain_trials.specs.session_lines.declared.end.End.{End}
+use Rattle.plain_trials.specs.session_lines.declared.end.End.TheVariants as line_end
 use Rattle.check_runs.specs.session_runs.Runs.{outside_of, directory_fault, state_fault}
-use Rattle.session_saver.specs.declared.saver.SyncError.{SyncError}
-use Rattle.session_saver.specs.declared.saver.SyncError.TheVariants as sync_error
+use Rattle.histories.specs.session_saver.declared.saver.SyncError.{SyncError}
+use Rattle.histories.specs.session_saver.declared.saver.SyncError.TheVariants as sync_error
 use Rattle.copy_runs.specs.shell_sessions.Sessions.{Session, ComesShell, ComesGenerated, ComesCommand}
 use Rattle.shell_words.specs.declared.form.Form.{Form}
 use Rattle.shell_words.specs.declared.form.Form.TheVariants.{Trial, TrialGenerate, Create, Info, Passwd, Migrate, Shell, Generate, Command, Import, Export, Put, Get, Check, Survey}

@@ -11,9 +11,9 @@ use Rattle.check_runs.specs.cryfs_setup.Info.{Told}
 use Rattle.check_runs.specs.cryfs_setup.Passwd.{RanPasswd, IsChanged}
 use Rattle.check_runs.specs.setup_texts.PasswdText.{Reports as ChangeReports, changed_text}
 use Rattle.check_runs.specs.setup_texts.Printing.{Printed}
-use Rattle.check_runs.proofs.cryfs_setup.Ending.{ends}
-use Rattle.held_blocks.specs.Standing.{records}
-use Rattle.line_io.specs.Streams.{Stream, HasFailed}
+use Rattle.check_runs.proofs.cryfs_setup_lemmas.Ending.{ends}
+use Rattle.histories.specs.held_blocks.Standing.{records}
+use Rattle.plain_trials.specs.line_io.Streams.{Stream, HasFailed}
 use Rattle.check_runs.specs.mount_tower.declared.draws.Draws.{Draws}
 use Rattle.check_runs.specs.mount_tower.declared.error.OpenError.{OpenError}
 use Rattle.check_runs.specs.mount_tower.declared.error.OpenError.TheVariants as open_error
@@ -21,16 +21,16 @@ use Rattle.check_runs.specs.mount_tower.Making.{CreateCause}
 use Rattle.check_runs.specs.mount_core.Standing.{IsKeptMarked}
 use Rattle.outside.specs.Trace.{Call}
 use Rattle.outside.specs.declared.keeper.Keeper.{Ghosts as KeeperGhosts}
-use Rattle.passwords.specs.Passwords.{PasswordUnread, PasswordsUnread}
+use Rattle.histories.specs.passwords.Passwords.{PasswordUnread, PasswordsUnread}
 use Rattle.check_runs.specs.session_runs.Openings.{AreUncalled, HasCauses}
-use Rattle.run_edges.specs.Statuses.{opening_status, closing_status}
+use Rattle.histories.specs.run_edges.Statuses.{opening_status, closing_status}
 use Rattle.run_status.specs.declared.ended.Ended.{Ended}
 use Rattle.run_status.specs.declared.status.Status.{Status}
 use Rattle.run_status.specs.declared.status.Status.TheVariants.{Done, Usage, LongPassword, Violation, InputFault, OutputFault, HostFault}
 use Rattle.scrypt_kdf.specs.Cost.{Cost}
 use Rattle.check_runs.specs.session_runs.Runs.{outside_of}
-use Rattle.session_saver.specs.declared.saver.SyncError.{SyncError}
-use Rattle.session_saver.specs.declared.saver.SyncError.TheVariants as sync_error
+use Rattle.histories.specs.session_saver.declared.saver.SyncError.{SyncError}
+use Rattle.histories.specs.session_saver.declared.saver.SyncError.TheVariants as sync_error
 use Rattle.cryfs_shell.specs.Clauses.{IsRefusedRun, NoFalseAlarm, KeepsTree, FaultsHappened}
 use Rattle.cryfs_shell.proofs.Statuses.{IsOfOpening, opening_is_no}
 use Rattle.cryfs_shell.proofs.Sessions.{IsUnreadStatus, one_unread, two_unread, unread_is_no, unread_faults, unread_refusal, unread_keeps, opens_under, unopened_faults, unopened_refusal, unopened_alarm, unopened_keeps, grown}

@@ -2,9 +2,9 @@
 use Rattle.std.proofs.Common.{◌≡◌, ◌≢◌, ◌+◌, ℕ, Bool, true, false, refl, sym, ◌∙◌, subst, arith}
 use Rattle.std.specs.Prelude.{Result, OnOk}
 use Rattle.std.specs.declared.result.Result.TheVariants.{Ok, Err}
-use Rattle.config_file.specs.declared.error.ConfigError.TheVariants as config_error
-use Rattle.line_io.specs.Streams.{Stream, HasFailed}
-use Rattle.passwords.specs.Passwords.{InputFailed}
+use Rattle.histories.specs.config_file.declared.error.ConfigError.TheVariants as config_error
+use Rattle.plain_trials.specs.line_io.Streams.{Stream, HasFailed}
+use Rattle.histories.specs.passwords.Passwords.{InputFailed}
 use Rattle.check_runs.specs.mount.Mounts.{StopsMarked}
 use Rattle.check_runs.specs.mount_tower.declared.error.OpenError.{OpenError}
 use Rattle.check_runs.specs.mount_tower.declared.error.OpenError.TheVariants.{Memory as NoMemory, NoState, BadState, Exists, Marked, Mismatch, NoConfig, Config as OfConfig, FaultDirectory, FaultState}
@@ -12,13 +12,13 @@ use Rattle.outside.specs.Causes.{RoseBy}
 use Rattle.run_status.specs.Statuses.{first_of}
 use Rattle.run_status.specs.declared.status.Status.{Status}
 use Rattle.run_status.specs.declared.status.Status.TheVariants.{Done, Usage, LongPassword, Violation, DirectoryFault, StateFault, InputFault, OutputFault, HostFault}
-use Rattle.session_lines.specs.declared.end.End.{End}
-use Rattle.session_lines.specs.declared.end.End.TheVariants as line_end
+use Rattle.plain_trials.specs.session_lines.declared.end.End.{End}
+use Rattle.plain_trials.specs.session_lines.declared.end.End.TheVariants as line_end
 use Rattle.check_runs.specs.session_runs.Runs.{directory_fault, state_fault}
-use Rattle.session_saver.specs.declared.saver.SyncError.{SyncError}
-use Rattle.session_saver.specs.declared.saver.SyncError.TheVariants as sync_error
-use Rattle.run_edges.specs.Statuses.{opening_status, session_status, IsOwn}
-use Rattle.run_edges.proofs.Owns.{not_own, is_own}
+use Rattle.histories.specs.session_saver.declared.saver.SyncError.{SyncError}
+use Rattle.histories.specs.session_saver.declared.saver.SyncError.TheVariants as sync_error
+use Rattle.histories.specs.run_edges.Statuses.{opening_status, session_status, IsOwn}
+use Rattle.histories.proofs.run_edges_lemmas.Owns.{not_own, is_own}
 use Rattle.cryfs_shell.specs.Clauses.{IsRefusingStatus}
 
 -- ---- a file system that wasn't opened

@@ -1,19 +1,19 @@
 -- Why lines ended, and what holds of each run on a plain tree.
 use Rattle.std.proofs.Common.{◌≡◌, ℕ, List, sym, ap, subst, inl, inr}
 use Rattle.std.specs.declared.option.Option.{Option}
-use Rattle.answers.specs.Sessions.{Exchange}
+use Rattle.plain_trials.specs.answers.Sessions.{Exchange}
 use Rattle.fs_model.specs.Instant.{Instant}
-use Rattle.line_io.specs.Streams.{Stream, HasFailed}
+use Rattle.plain_trials.specs.line_io.Streams.{Stream, HasFailed}
 use Rattle.outside.specs.Trace.{Call}
 use Rattle.outside.specs.declared.keeper.Keeper.{Ghosts as KeeperGhosts}
-use Rattle.passwords.specs.Passwords.{InputFailed}
+use Rattle.histories.specs.passwords.Passwords.{InputFailed}
 use Rattle.check_runs.specs.session_runs.Openings.{AreUncalled}
 use Rattle.run_status.specs.declared.ended.Ended.{Ended}
 use Rattle.run_status.specs.declared.status.Status.{Status}
 use Rattle.run_status.specs.declared.status.Status.TheVariants.{Done, DirectoryFault, StateFault, InputFault, OutputFault, Memory}
-use Rattle.session_lines.specs.Driven.{EndsAs, Reported}
-use Rattle.session_lines.specs.declared.end.End.{End}
-use Rattle.session_lines.specs.declared.end.End.TheVariants as line_end
+use Rattle.plain_trials.specs.session_lines.Driven.{EndsAs, Reported}
+use Rattle.plain_trials.specs.session_lines.declared.end.End.{End}
+use Rattle.plain_trials.specs.session_lines.declared.end.End.TheVariants as line_end
 use Rattle.check_runs.specs.session_runs.Runs.{outside_of}
 use Rattle.cryfs_shell.specs.Clauses.{FaultsHappened}
 use Rattle.plain_trials.specs.Runs.{Tried, GeneratedOnPlain, status_of}

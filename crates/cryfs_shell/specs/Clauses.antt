@@ -2,21 +2,21 @@
 use Rattle.std.specs.Prelude.{◌≡◌, ◌≢◌, ◌⊎◌, ◌≤◌, ℕ, true, false, List}
 use Rattle.std.specs.declared.option.Option.{Option}
 use Rattle.std.specs.declared.option.Option.TheVariants.{None, Some}
-use Rattle.config_file.specs.Settings.{Settings}
+use Rattle.histories.specs.config_file.Settings.{Settings}
 use Rattle.fs_model.specs.Tree.{Tree}
-use Rattle.held_blocks.specs.Standing.{records}
-use Rattle.line_io.specs.Lines.{first_line}
-use Rattle.line_io.specs.Streams.{Stream, HasFailed, Untouched}
+use Rattle.histories.specs.held_blocks.Standing.{records}
+use Rattle.plain_trials.specs.line_io.Lines.{first_line}
+use Rattle.plain_trials.specs.line_io.Streams.{Stream, HasFailed, Untouched}
 use Rattle.check_runs.specs.mount_tower.Identities.{HasEmptyList}
 use Rattle.check_runs.specs.mount_core.Standing.{IsKeptMarked}
 use Rattle.outside.specs.Causes.{RoseBy}
 use Rattle.outside.specs.Trace.{Call}
 use Rattle.outside.specs.declared.keeper.Keeper.{Ghosts as KeeperGhosts}
-use Rattle.passwords.specs.Passwords.{InputFailed}
+use Rattle.histories.specs.passwords.Passwords.{InputFailed}
 use Rattle.run_status.specs.declared.ended.Ended.{Ended}
 use Rattle.run_status.specs.declared.status.Status.{Status}
 use Rattle.run_status.specs.declared.status.Status.TheVariants.{Done, Usage, LongPassword, Violation, DirectoryFault, StateFault, InputFault, OutputFault, Memory, HostFault}
-use Rattle.session_lines.specs.Driven.{IsUnfailed}
+use Rattle.plain_trials.specs.session_lines.Driven.{IsUnfailed}
 use Rattle.check_runs.specs.session_runs.Openings.{AreUncalled}
 use Rattle.check_runs.specs.session_runs.Drawing.{DrawsAs}
 use Rattle.check_runs.specs.session_runs.Runs.{Outside, outside_of, OutsideStandsFor, OpensTo, OpensOnlyTo, forgeries, lies}

@@ -9,7 +9,7 @@ use Rattle.check_runs.specs.cryfs_setup.Info.{Told}
 use Rattle.check_runs.specs.cryfs_setup.Migrate.{RanMigrate}
 use Rattle.check_runs.specs.cryfs_setup.Passwd.{RanPasswd}
 use Rattle.fs_model.specs.Instant.{Instant}
-use Rattle.line_io.specs.Streams.{Untouched}
+use Rattle.plain_trials.specs.line_io.Streams.{Untouched}
 use Rattle.check_runs.specs.mount_tower.Drawing.{drawn}
 use Rattle.outside.specs.Trace.{Call}
 use Rattle.outside.specs.declared.keeper.Keeper.{Ghosts as KeeperGhosts}

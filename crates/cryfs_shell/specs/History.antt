@@ -2,15 +2,15 @@
 use Rattle.std.specs.Prelude.{◌≡◌, ℕ, Bool, true, false, List}
 use Rattle.std.specs.declared.option.Option.{Option}
 use Rattle.std.specs.declared.option.Option.TheVariants.{Some}
-use Rattle.answers.specs.Sessions.{Exchange}
+use Rattle.plain_trials.specs.answers.Sessions.{Exchange}
 use Rattle.cryfs_shell.specs.Copies.{Imports, Exports, Puts, Gets}
 use Rattle.cryfs_shell.specs.Streams.{Streams}
 use Rattle.fs_model.specs.Instant.{Instant}
 use Rattle.histories.specs.Histories.{Run, session, quiet, examined, migrated, before_of, after_of, IsRun}
 use Rattle.run_status.specs.declared.status.Status.{Status}
 use Rattle.run_status.specs.declared.status.Status.TheVariants.{Violation}
-use Rattle.line_io.specs.Streams.{Stream}
-use Rattle.session_lines.specs.declared.end.End.{End}
+use Rattle.plain_trials.specs.line_io.Streams.{Stream}
+use Rattle.plain_trials.specs.session_lines.declared.end.End.{End}
 use Rattle.check_runs.specs.session_runs.Openings.{HasPassword}
 use Rattle.check_runs.specs.session_runs.Runs.{Outside}
 use Rattle.copy_runs.specs.shell_sessions.Sessions.{ComesShell, ComesGenerated, ComesCommand}

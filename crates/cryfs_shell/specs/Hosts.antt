@@ -1,7 +1,7 @@
 -- What a run sees of the host folder.
 use Rattle.std.specs.Prelude.{◌≡◌, ℕ}
 use Rattle.std.specs.declared.option.Option.{Option}
-use Rattle.host_folder.specs.Folders.{HostTree}
+use Rattle.copy_runs.specs.host_folder.Folders.{HostTree}
 
 -- its tree before and after, where it is told, and how often a call on it had failed before and after
 pub record HostSeen : Type 0 where

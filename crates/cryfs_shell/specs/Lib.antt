@@ -16,3 +16,12 @@ pub use Rattle.check_runs.specs.mount_tower as mount_tower
 pub use Rattle.check_runs.specs.session_runs as session_runs
 pub use Rattle.check_runs.specs.setup_texts as setup_texts
 pub use Rattle.copy_runs.specs.shell_sessions as shell_sessions
+pub use Rattle.plain_trials.specs.answers as answers
+pub use Rattle.histories.specs.config_file as config_file
+pub use Rattle.histories.specs.held_blocks as held_blocks
+pub use Rattle.histories.specs as histories
+pub use Rattle.plain_trials.specs.line_io as line_io
+pub use Rattle.histories.specs.passwords as passwords
+pub use Rattle.histories.specs.run_edges as run_edges
+pub use Rattle.plain_trials.specs.session_lines as session_lines
+pub use Rattle.shell_words.specs as shell_words

@@ -2,8 +2,8 @@
 ghost use Rattle.std.specs.Prelude.{◌≡◌, ◌≤◌, true, false, map};
 ghost use Rattle.std.specs.declared.option.Option.TheVariants.{Some};
 ghost use Rattle.std.specs.String.{string_bytes};
-ghost use Rattle.held_blocks.specs.Standing.{records};
-ghost use Rattle.line_io.specs.Streams.{stream_of};
+ghost use Rattle.histories.specs.held_blocks.Standing.{records};
+ghost use Rattle.plain_trials.specs.line_io.Streams.{stream_of};
 ghost use Rattle.check_runs.specs.mount_core.Standing.{IsKeptMarked};
 ghost use Rattle.check_runs.specs.session_runs.Drawing.{DrawsVectors, DrawsAs};
 ghost use Rattle.check_runs.specs.session_runs.Runs.{outside_of};
@@ -19,13 +19,13 @@ ghost use Rattle.cryfs_shell.specs.Streams.{NoneFalls, streams_of};
 
 use crate::request::Request;
 use block_id::Memory;
+use check_runs::listing::Listing;
 use check_runs::{run_check, run_create, run_info, run_migrate, run_passwd, run_survey};
+use copy_runs::host_folder::Folder;
 use copy_runs::{
     CopyRequest, run_command, run_export, run_generate, run_get, run_import, run_put, run_shell,
 };
 use fs_model::Moment;
-use host_folder::Folder;
-use listing::Listing;
 use outside::{Keeper, Sink, Source, Vault};
 use plain_trials::{try_generated, try_lines};
 use rand_core::Rng;

@@ -13,3 +13,6 @@ pub mod Stored
 pub mod Borders
 pub mod OneTree
 pub mod Heads
+-- Handed on to crates above, which name their lemmas so and needn't list them.
+pub use Rattle.data_nodes.proofs as data_nodes_lemmas
+pub use Rattle.store_api.proofs as store_api_lemmas

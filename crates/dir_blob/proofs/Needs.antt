@@ -5,12 +5,12 @@ use Rattle.std.specs.FinMap.{get, put, insert, get-insert, same_map}
 use Rattle.std.specs.Ordering.{eq_by_cmp}
 use Rattle.std.specs.Prelude.{Bool, cond}
 use Rattle.fs_model.proofs.TreeLemmas.{name_total, name_exact}
-use Rattle.blob_api.specs.BlobMap.{BlobMap}
-use Rattle.outcome.specs.Meanings.{Meanings}
+use Rattle.fs_blobs.specs.blob_api.BlobMap.{BlobMap}
+use Rattle.fs_blobs.specs.outcome.Meanings.{Meanings}
 use Rattle.block_id.specs.declared.id.BlockId.{BlockId}
 use Rattle.block_id.specs.Contents.{resized, written, pieces}
 use Rattle.block_id.proofs.Contents.{length-written}
-use Rattle.blob_api.specs.BlobMap.{BlobsSteady, IsSparing}
+use Rattle.fs_blobs.specs.blob_api.BlobMap.{BlobsSteady, IsSparing}
 use Rattle.fs_model.specs.declared.attr.Attr.{Attr}
 use Rattle.fs_model.specs.Tree.{name_cmp}
 use Rattle.fs_blobs.specs.Headers.{blob}
@@ -21,8 +21,8 @@ use Rattle.dir_entries.proofs.Edits.{inserted, changed, removed, put_listing, wi
 use Rattle.std.proofs.lemmas.List.{take_all, length-drop}
 use Rattle.std.proofs.lemmas.Nat.{le-div}
 use Rattle.std.proofs.Math.Nat.{div-mul-le_self}
-use Rattle.blob_api.specs.declared.blobs.TheConstants.{MAX_BLOB}
-use Rattle.blob_api.specs.BlobMap.{Id, BlobHoldings}
+use Rattle.fs_blobs.specs.blob_api.declared.blobs.TheConstants.{MAX_BLOB}
+use Rattle.fs_blobs.specs.blob_api.BlobMap.{Id, BlobHoldings}
 use Rattle.fs_model.specs.declared.attr.Kind.TheVariants.{Directory}
 use Rattle.fs_blobs.specs.declared.header.TheConstants.{HEADER_LEN}
 use Rattle.fs_blobs.specs.Blobs.{IsBlob}

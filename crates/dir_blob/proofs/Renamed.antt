@@ -2,7 +2,7 @@
 use Rattle.std.specs.Prelude.{◌≡◌, ◌≤◌, ℕ, List, ◌++◌, length, take, drop}
 use Rattle.std.proofs.Common.{sym, ◌∙◌, ap, subst}
 use Rattle.std.specs.FinMap.{insert}
-use Rattle.blob_api.specs.BlobMap.{Id, BlobHoldings}
+use Rattle.fs_blobs.specs.blob_api.BlobMap.{Id, BlobHoldings}
 use Rattle.fs_model.specs.declared.attr.Kind.TheVariants.{Directory}
 use Rattle.fs_model.specs.declared.limits.TheConstants.{MAX_ENTRIES}
 use Rattle.fs_blobs.specs.Headers.{blob}

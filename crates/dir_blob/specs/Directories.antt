@@ -1,10 +1,10 @@
 -- What a call on a directory needs, and what it leaves.
 use Rattle.std.specs.Prelude.{◌≡◌, ◌≤◌, ◌+◌, ℕ, List, ◌++◌, length, take, drop}
 use Rattle.std.specs.FinMap.{get, insert, find}
-use Rattle.outcome.specs.Meanings.{Meanings}
+use Rattle.fs_blobs.specs.outcome.Meanings.{Meanings}
 use Rattle.std.specs.declared.option.Option.TheVariants.{None, Some}
-use Rattle.blob_api.specs.declared.blobs.TheConstants.{MAX_BLOB}
-use Rattle.blob_api.specs.BlobMap.{Id, BlobMap, BlobHoldings}
+use Rattle.fs_blobs.specs.blob_api.declared.blobs.TheConstants.{MAX_BLOB}
+use Rattle.fs_blobs.specs.blob_api.BlobMap.{Id, BlobMap, BlobHoldings}
 use Rattle.fs_model.specs.declared.attr.Kind.TheVariants.{Directory}
 use Rattle.fs_blobs.specs.declared.header.TheConstants.{HEADER_LEN}
 use Rattle.fs_blobs.specs.Headers.{blob}

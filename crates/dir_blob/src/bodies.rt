@@ -7,10 +7,10 @@ ghost use Rattle.dir_entries.specs.Layout.{EntryTarget, Listing, IsBody, body_of
 ghost use Rattle.dir_entries.specs.Places.{IsPlace, without};
 
 use crate::reads::MAX_BODY;
-use blob_api::MAX_BLOB;
 use block_id::Memory;
 use dir_entries::{Located, locate};
 use fs_blobs::HEADER_LEN;
+use fs_blobs::blob_api::MAX_BLOB;
 use fs_model::Name;
 use std::alloc::Global;
 

@@ -1,8 +1,8 @@
 // Changing one entry of a directory that is a blob.
 ghost use Rattle.std.specs.Prelude.{◌≡◌, ◌≤◌, ◌+◌, IfOk, length, is_some, None, true};
 ghost use Rattle.std.specs.FinMap.{find as found_in, put};
-ghost use Rattle.outcome.specs.Outcome.{Outcome};
-ghost use Rattle.blob_api.specs.BlobMap.{IsSparing};
+ghost use Rattle.fs_blobs.specs.outcome.Outcome.{Outcome};
+ghost use Rattle.fs_blobs.specs.blob_api.BlobMap.{IsSparing};
 ghost use Rattle.fs_model.specs.Tree.{name_cmp, entry_size};
 ghost use Rattle.dir_entries.specs.Layout.{Listing, entry_of, IsBody, body_of};
 ghost use Rattle.dir_entries.specs.Places.{without};
@@ -10,9 +10,9 @@ ghost use Rattle.dir_blob.specs.Directories.{HasEntries, HasRoom, HasRoomIn, Has
 
 use crate::bodies::held_at;
 use crate::whole_body;
-use blob_api::Blobs;
 use block_id::{BlockId, Fail, Why};
 use dir_entries::{Entry, locate, put_entry};
+use fs_blobs::blob_api::Blobs;
 use fs_blobs::{resize_body, write_body};
 use fs_model::{MAX_ENTRIES, MAX_MODE, Name};
 use std::alloc::Global;

@@ -1,15 +1,15 @@
 // Reading a directory that is a blob.
 ghost use Rattle.std.specs.Prelude.{◌≡◌, ◌≤◌, IfOk, IfSome, length};
 ghost use Rattle.std.specs.FinMap.{find as found_in};
-ghost use Rattle.outcome.specs.Outcome.{Outcome};
+ghost use Rattle.fs_blobs.specs.outcome.Outcome.{Outcome};
 ghost use Rattle.fs_model.specs.Tree.{name_cmp};
 ghost use Rattle.dir_entries.specs.Layout.{IsListing, listing_of, body_of};
 ghost use Rattle.dir_entries.specs.Places.{target_of};
 ghost use Rattle.dir_blob.specs.Directories.{IsDirectory};
 
-use blob_api::{Blobs, MAX_BLOB};
 use block_id::{BlockId, Fail, Why};
 use dir_entries::{Entry, decode_entries, locate};
+use fs_blobs::blob_api::{Blobs, MAX_BLOB};
 use fs_blobs::{HEADER_LEN, read_body};
 use fs_model::{Attr, MAX_MODE, Name};
 use std::alloc::Global;

@@ -2,16 +2,16 @@
 ghost use Rattle.std.specs.Prelude.{◌≡◌, ◌≤◌, ◌+◌, ◌++◌, IfOk, drop, is_some, length, take, true, None};
 ghost use Rattle.std.specs.FinMap.{find as found_in, insert as with_key};
 ghost use Rattle.fs_model.specs.declared.attr.Kind.TheVariants.{Directory};
-ghost use Rattle.outcome.specs.Outcome.{Outcome};
+ghost use Rattle.fs_blobs.specs.outcome.Outcome.{Outcome};
 ghost use Rattle.fs_blobs.specs.Headers.{blob};
 ghost use Rattle.fs_model.specs.Tree.{name_cmp};
 ghost use Rattle.dir_entries.specs.Layout.{Listing, IsBody, entry_of};
 ghost use Rattle.dir_entries.specs.Renaming.{renamed};
 ghost use Rattle.dir_blob.specs.Directories.{HasBothIn, HasEntries, Reading};
 
-use blob_api::{Blobs, MAX_BLOB};
 use block_id::{BlockId, Fail, Why};
 use dir_entries::{Edit, Entry, renaming};
+use fs_blobs::blob_api::{Blobs, MAX_BLOB};
 use fs_blobs::{HEADER_LEN, resize_body, write_body};
 use fs_model::{MAX_ENTRIES, MAX_MODE, Name};
 use std::alloc::Global;

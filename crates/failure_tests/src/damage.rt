@@ -1,9 +1,9 @@
 // Sessions over a directory or a record that was changed.
 
-use memory_outside::MemoryKeeper;
 use outside::{FileName, Pending};
 use std::alloc::Global;
 use std::test::Fail;
+use test_systems::memory_outside::MemoryKeeper;
 use test_systems::{
     Status, System, block, copy_files, file, first_made, new_system, session, store,
 };

@@ -3,16 +3,16 @@ use Rattle.std.proofs.Common.{◌≡◌, ◌⊎◌, ℕ, List, inl, inr, refl, a
 use Rattle.std.specs.declared.option.Option.TheVariants.{None}
 use Rattle.std.specs.declared.result.Result.{Result}
 use Rattle.std.specs.declared.result.Result.TheVariants.{Ok, Err}
-use Rattle.answers.specs.Sessions.{Exchange}
+use Rattle.copy_sessions.specs.answers.Sessions.{Exchange}
 use Rattle.outside.specs.Causes.{RoseBy}
-use Rattle.line_io.specs.Streams.{Stream, HasFailed, TookMost}
+use Rattle.copy_sessions.specs.line_io.Streams.{Stream, HasFailed, TookMost}
 use Rattle.run_status.specs.declared.status.Status.{Status}
 use Rattle.run_status.specs.declared.status.Status.TheVariants as status
-use Rattle.session_lines.specs.declared.end.End.{End}
-use Rattle.host_folder.specs.Folders.{HostPath}
-use Rattle.copy_rules.specs.declared.copied.Totals.{Totals}
-use Rattle.copy_rules.specs.declared.copied.CopyFail.TheVariants as fail
-use Rattle.copy_rules.specs.Questions.{Question}
+use Rattle.copy_sessions.specs.session_lines.declared.end.End.{End}
+use Rattle.row_copy.specs.host_folder.Folders.{HostPath}
+use Rattle.row_copy.specs.copy_rules.declared.copied.Totals.{Totals}
+use Rattle.row_copy.specs.copy_rules.declared.copied.CopyFail.TheVariants as fail
+use Rattle.row_copy.specs.copy_rules.Questions.{Question}
 use Rattle.copy_sessions.specs.declared.way.Way.TheVariants.{In}
 use Rattle.copy_sessions.specs.Fitting.{Fits, kept_after}
 use Rattle.copy_sessions.specs.Laws.{AreFaultless}

@@ -6,16 +6,16 @@ use Rattle.std.specs.declared.result.Result.{Result}
 use Rattle.std.specs.declared.result.Result.TheVariants.{Ok, Err}
 use Rattle.outside.specs.Causes.{RoseBy}
 use Rattle.outside.specs.Streams.{appends}
-use Rattle.line_io.specs.Streams.{Stream, Cut}
-use Rattle.line_io.proofs.Flow.{appends-append, appends-nil}
+use Rattle.copy_sessions.specs.line_io.Streams.{Stream, Cut}
+use Rattle.copy_sessions.proofs.line_io_lemmas.Flow.{appends-append, appends-nil}
 use Rattle.fs_model.specs.declared.reply.Reply.{Reply}
 use Rattle.fs_model.specs.declared.reply.Reply.TheVariants.{Content, Error}
-use Rattle.host_folder.specs.Folders.{HostPath}
-use Rattle.copy_rules.specs.declared.asker.Stopped.{Stopped}
-use Rattle.copy_rules.specs.Importing.{joined}
-use Rattle.copy_rules.specs.Questions.{Asking, LawfulAsker, Asked, AreAnswered}
-use Rattle.copy_rules.proofs.Asking.{asked_none, asked_then}
-use Rattle.copy_rules.proofs.Cutting.{joined_append}
+use Rattle.row_copy.specs.host_folder.Folders.{HostPath}
+use Rattle.row_copy.specs.copy_rules.declared.asker.Stopped.{Stopped}
+use Rattle.row_copy.specs.copy_rules.Importing.{joined}
+use Rattle.row_copy.specs.copy_rules.Questions.{Asking, LawfulAsker, Asked, AreAnswered}
+use Rattle.row_copy.proofs.copy_rules_lemmas.Asking.{asked_none, asked_then}
+use Rattle.row_copy.proofs.copy_rules_lemmas.Cutting.{joined_append}
 use Rattle.row_copy.specs.declared.stop.Stop.{Stop}
 use Rattle.row_copy.specs.declared.stop.Stop.TheVariants as stop
 use Rattle.file_copies.specs.Getting.{read_at, reads, AreWhole, place_behind, Wrote, FileGot, PieceAsked}

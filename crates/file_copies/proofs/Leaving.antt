@@ -17,23 +17,23 @@ use Rattle.fs_model.specs.LookUp.{LookedUp, Found, Free, Bad, look, seen}
 use Rattle.fs_model.specs.Step.{Stepped, made, new_row}
 use Rattle.fs_model.specs.Tree.{Path, Row, Tree, upward}
 use Rattle.fs_model.proofs.LawLemmas.{error_stays}
-use Rattle.host_folder.specs.Folders.{HostPath}
-use Rattle.copy_rules.specs.declared.asker.Stopped.{Stopped}
-use Rattle.copy_rules.specs.Ends.{LastWas, IsFront}
-use Rattle.copy_rules.specs.Importing.{AllDone, writes, pieces_of, joined, plain_of}
-use Rattle.copy_rules.specs.Questions.{Question, Answered, Followed, commands_of}
-use Rattle.copy_rules.proofs.Asking.{commands_append}
-use Rattle.copy_rules.proofs.Copying.{done_follows}
-use Rattle.copy_rules.proofs.Cutting.{joined_append}
-use Rattle.copy_rules.proofs.Pieces.{AreSome, joined-cut, some-cut}
-use Rattle.copy_rules.proofs.Steps.{row_sets, writes_set}
-use Rattle.answers.specs.Sessions.{latest}
+use Rattle.row_copy.specs.host_folder.Folders.{HostPath}
+use Rattle.row_copy.specs.copy_rules.declared.asker.Stopped.{Stopped}
+use Rattle.row_copy.specs.copy_rules.Ends.{LastWas, IsFront}
+use Rattle.row_copy.specs.copy_rules.Importing.{AllDone, writes, pieces_of, joined, plain_of}
+use Rattle.row_copy.specs.copy_rules.Questions.{Question, Answered, Followed, commands_of}
+use Rattle.row_copy.proofs.copy_rules_lemmas.Asking.{commands_append}
+use Rattle.row_copy.proofs.copy_rules_lemmas.Copying.{done_follows}
+use Rattle.row_copy.proofs.copy_rules_lemmas.Cutting.{joined_append}
+use Rattle.row_copy.proofs.copy_rules_lemmas.Pieces.{AreSome, joined-cut, some-cut}
+use Rattle.row_copy.proofs.copy_rules_lemmas.Steps.{row_sets, writes_set}
+use Rattle.copy_sessions.specs.answers.Sessions.{latest}
 use Rattle.copy_sessions.proofs.Following.{follows}
 use Rattle.row_copy.specs.declared.stop.Stop.{Stop}
 use Rattle.row_copy.specs.declared.stop.Stop.TheVariants as stop
 use Rattle.file_copies.specs.Laws.{IsPutIn, IsPutPart, PutLeaves, PutLeavesPart}
 use Rattle.file_copies.specs.Putting.{put_commands, IsPut}
-use Rattle.copy_rules.proofs.Exported.{reply_is}
+use Rattle.row_copy.proofs.copy_rules_lemmas.Exported.{reply_is}
 
 -- ---- the file is new
 

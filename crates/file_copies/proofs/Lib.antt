@@ -5,3 +5,6 @@ pub mod Leaving
 pub mod Telling
 pub mod Sessions
 pub mod Faultless
+-- Handed on to crates above, which name their lemmas so and needn't list them.
+pub use Rattle.copy_sessions.proofs as copy_sessions_lemmas
+pub use Rattle.row_copy.proofs.store_api_lemmas as store_api_lemmas

@@ -9,10 +9,10 @@ use Rattle.std.proofs.lemmas.List.{length-take, take_all, take_at, drop_at, drop
 use Rattle.std.proofs.lemmas.Option.{same_Some}
 use Rattle.outside.specs.Streams.{WereTaken, Ends}
 use Rattle.fs_model.specs.declared.attr.Kind.TheVariants.{File}
-use Rattle.host_folder.specs.Folders.{HostRow, HostPath, HostTree}
-use Rattle.host_folder.proofs.Inserts.{here}
-use Rattle.copy_rules.specs.declared.copied.Totals.{Totals}
-use Rattle.copy_rules.specs.Questions.{Asking}
+use Rattle.row_copy.specs.host_folder.Folders.{HostRow, HostPath, HostTree}
+use Rattle.row_copy.proofs.host_folder_lemmas.Inserts.{here}
+use Rattle.row_copy.specs.copy_rules.declared.copied.Totals.{Totals}
+use Rattle.row_copy.specs.copy_rules.Questions.{Asking}
 use Rattle.row_copy.specs.declared.stop.Stop.{Stop}
 use Rattle.row_copy.specs.Rows.{FileCopied, IsPiece, HasFile}
 use Rattle.file_copies.specs.Putting.{IsTaken, BytesPut}

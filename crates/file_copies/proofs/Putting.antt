@@ -6,17 +6,17 @@ use Rattle.std.specs.declared.result.Result.{Result}
 use Rattle.std.specs.declared.result.Result.TheVariants.{Ok, Err}
 use Rattle.std.proofs.lemmas.List.{length-append}
 use Rattle.outside.specs.Causes.{RoseBy}
-use Rattle.line_io.specs.Reading.{total}
-use Rattle.line_io.specs.Streams.{Stream, HasFailed, TookMost}
-use Rattle.session_lines.specs.Driven.{IsUnfailed}
+use Rattle.copy_sessions.specs.line_io.Reading.{total}
+use Rattle.copy_sessions.specs.line_io.Streams.{Stream, HasFailed, TookMost}
+use Rattle.copy_sessions.specs.session_lines.Driven.{IsUnfailed}
 use Rattle.fs_model.specs.declared.command.Command.TheVariants as command
-use Rattle.host_folder.specs.Folders.{HostPath}
-use Rattle.copy_rules.specs.declared.copied.Totals.{Totals}
-use Rattle.copy_rules.specs.Ends.{total as total_of, counted, totals_of, up_to, dirs_by, files_by, links_by, bytes_by}
-use Rattle.copy_rules.specs.Importing.{writes, pieces_of, joined}
-use Rattle.copy_rules.specs.Questions.{Question, Asking, LawfulAsker}
-use Rattle.copy_rules.proofs.Asking.{counted_then, counted_all}
-use Rattle.copy_rules.proofs.Pieces.{joined-cut}
+use Rattle.row_copy.specs.host_folder.Folders.{HostPath}
+use Rattle.row_copy.specs.copy_rules.declared.copied.Totals.{Totals}
+use Rattle.row_copy.specs.copy_rules.Ends.{total as total_of, counted, totals_of, up_to, dirs_by, files_by, links_by, bytes_by}
+use Rattle.row_copy.specs.copy_rules.Importing.{writes, pieces_of, joined}
+use Rattle.row_copy.specs.copy_rules.Questions.{Question, Asking, LawfulAsker}
+use Rattle.row_copy.proofs.copy_rules_lemmas.Asking.{counted_then, counted_all}
+use Rattle.row_copy.proofs.copy_rules_lemmas.Pieces.{joined-cut}
 use Rattle.row_copy.specs.declared.stop.Stop.{Stop}
 use Rattle.row_copy.specs.declared.stop.Stop.TheVariants as stop
 use Rattle.row_copy.specs.Rows.{Asks, RowEnds, NeverHost, none_copied}

@@ -6,8 +6,8 @@ use Rattle.std.specs.declared.result.Result.TheVariants.{Ok, Err}
 use Rattle.std.proofs.lemmas.List.{length-take, take_all, take-append-drop, drop-drop}
 use Rattle.std.proofs.lemmas.Option.{same_Some}
 use Rattle.outside.specs.Streams.{appends}
-use Rattle.line_io.specs.Streams.{Stream, Cut}
-use Rattle.line_io.proofs.Flow.{appends-append, appends-nil}
+use Rattle.copy_sessions.specs.line_io.Streams.{Stream, Cut}
+use Rattle.copy_sessions.proofs.line_io_lemmas.Flow.{appends-append, appends-nil}
 use Rattle.fs_model.specs.declared.attr.Kind.TheVariants.{File}
 use Rattle.fs_model.specs.declared.command.Command.TheVariants as command
 use Rattle.fs_model.specs.declared.error.FsError.{FsError}
@@ -19,11 +19,11 @@ use Rattle.fs_model.specs.Step.{Stepped, step, answered, content_read, on_file}
 use Rattle.fs_model.specs.Tree.{Row, Tree, upward}
 use Rattle.fs_model.proofs.LawLemmas.{looking_stays}
 use Rattle.fs_model.proofs.LookUpLemmas.{look-found}
-use Rattle.host_folder.specs.Folders.{HostPath}
-use Rattle.copy_rules.specs.Importing.{joined, plain_of}
-use Rattle.copy_rules.specs.Questions.{Question, Followed}
-use Rattle.copy_rules.proofs.Exported.{read_says}
-use Rattle.answers.specs.Sessions.{latest}
+use Rattle.row_copy.specs.host_folder.Folders.{HostPath}
+use Rattle.row_copy.specs.copy_rules.Importing.{joined, plain_of}
+use Rattle.row_copy.specs.copy_rules.Questions.{Question, Followed}
+use Rattle.row_copy.proofs.copy_rules_lemmas.Exported.{read_says}
+use Rattle.copy_sessions.specs.answers.Sessions.{latest}
 use Rattle.copy_sessions.proofs.Following.{follows}
 use Rattle.row_copy.specs.declared.stop.Stop.{Stop}
 use Rattle.row_copy.specs.declared.stop.Stop.TheVariants as stop

@@ -4,18 +4,18 @@ use Rattle.std.specs.declared.option.Option.{Option}
 use Rattle.std.specs.declared.option.Option.TheVariants.{None}
 use Rattle.std.specs.declared.result.Result.{Result}
 use Rattle.std.specs.declared.result.Result.TheVariants.{Ok, Err}
-use Rattle.answers.specs.declared.answer.Answer.{Answer}
-use Rattle.answers.specs.Sessions.{Exchange}
-use Rattle.line_io.specs.Streams.{Stream, Untouched}
-use Rattle.session_lines.specs.Driven.{IsUnfailed}
-use Rattle.session_lines.specs.declared.end.End.{End}
-use Rattle.session_lines.specs.declared.end.End.TheVariants.{Finished, InputFault, OutputFault}
+use Rattle.copy_sessions.specs.answers.declared.answer.Answer.{Answer}
+use Rattle.copy_sessions.specs.answers.Sessions.{Exchange}
+use Rattle.copy_sessions.specs.line_io.Streams.{Stream, Untouched}
+use Rattle.copy_sessions.specs.session_lines.Driven.{IsUnfailed}
+use Rattle.copy_sessions.specs.session_lines.declared.end.End.{End}
+use Rattle.copy_sessions.specs.session_lines.declared.end.End.TheVariants.{Finished, InputFault, OutputFault}
 use Rattle.run_status.specs.declared.status.Status.{Status}
 use Rattle.run_status.specs.declared.status.Status.TheVariants as status
-use Rattle.host_folder.specs.Folders.{HostPath}
-use Rattle.copy_rules.specs.declared.copied.Totals.{Totals}
-use Rattle.copy_rules.specs.declared.copied.CopyFail.TheVariants as fail
-use Rattle.copy_rules.specs.Questions.{Question}
+use Rattle.row_copy.specs.host_folder.Folders.{HostPath}
+use Rattle.row_copy.specs.copy_rules.declared.copied.Totals.{Totals}
+use Rattle.row_copy.specs.copy_rules.declared.copied.CopyFail.TheVariants as fail
+use Rattle.row_copy.specs.copy_rules.Questions.{Question}
 use Rattle.row_copy.specs.declared.stop.Stop.{Stop}
 use Rattle.row_copy.specs.declared.stop.Stop.TheVariants as stop
 use Rattle.copy_sessions.specs.declared.way.Way.TheVariants.{In}

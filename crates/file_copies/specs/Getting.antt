@@ -3,15 +3,15 @@ use Rattle.std.specs.Prelude.{◌≡◌, ℕ, ◌+◌, ◌*◌, ◌<◌, ◌≤�
 use Rattle.std.specs.declared.result.Result.{Result}
 use Rattle.std.specs.declared.result.Result.TheVariants.{Ok, Err}
 use Rattle.outside.specs.Streams.{appends}
-use Rattle.line_io.specs.Streams.{Stream, HasFailed, Cut}
-use Rattle.session_lines.specs.Driven.{IsUnfailed}
+use Rattle.copy_sessions.specs.line_io.Streams.{Stream, HasFailed, Cut}
+use Rattle.copy_sessions.specs.session_lines.Driven.{IsUnfailed}
 use Rattle.fs_model.specs.declared.command.Command.TheVariants as command
 use Rattle.fs_model.specs.declared.reply.Reply.{Reply}
 use Rattle.fs_model.specs.declared.reply.Reply.TheVariants.{Content, Error}
-use Rattle.host_folder.specs.Folders.{HostPath}
-use Rattle.copy_rules.specs.declared.asker.Stopped.{Stopped}
-use Rattle.copy_rules.specs.Importing.{joined}
-use Rattle.copy_rules.specs.Questions.{Question, Asking, Asked}
+use Rattle.row_copy.specs.host_folder.Folders.{HostPath}
+use Rattle.row_copy.specs.copy_rules.declared.asker.Stopped.{Stopped}
+use Rattle.row_copy.specs.copy_rules.Importing.{joined}
+use Rattle.row_copy.specs.copy_rules.Questions.{Question, Asking, Asked}
 use Rattle.row_copy.specs.declared.stop.Stop.{Stop}
 use Rattle.row_copy.specs.declared.stop.Stop.TheVariants as stop
 

@@ -6,25 +6,25 @@ use Rattle.std.specs.declared.option.Option.TheVariants.{None, Some}
 use Rattle.std.specs.declared.result.Result.{Result}
 use Rattle.std.specs.declared.result.Result.TheVariants.{Ok, Err}
 use Rattle.outside.specs.Streams.{appends}
-use Rattle.line_io.specs.Streams.{Stream, HasFailed, TookMost, Cut}
-use Rattle.answers.specs.declared.answer.Answer.{Answer}
-use Rattle.answers.specs.Sessions.{Exchange, IsSession, latest}
+use Rattle.copy_sessions.specs.line_io.Streams.{Stream, HasFailed, TookMost, Cut}
+use Rattle.copy_sessions.specs.answers.declared.answer.Answer.{Answer}
+use Rattle.copy_sessions.specs.answers.Sessions.{Exchange, IsSession, latest}
 use Rattle.fs_model.specs.declared.attr.Kind.TheVariants.{File}
 use Rattle.fs_model.specs.declared.command.Command.TheVariants as command
 use Rattle.fs_model.specs.declared.reply.Reply.TheVariants.{Error}
 use Rattle.fs_model.specs.Instant.{Instant}
 use Rattle.fs_model.specs.Step.{step}
 use Rattle.fs_model.specs.Tree.{Path, Tree, upward}
-use Rattle.host_folder.specs.Folders.{HostPath}
-use Rattle.copy_rules.specs.declared.copied.Totals.{Totals}
-use Rattle.copy_rules.specs.Importing.{plain_of}
-use Rattle.copy_rules.specs.Questions.{Question}
-use Rattle.copy_rules.specs.declared.copied.CopyFail.TheVariants as fail
+use Rattle.row_copy.specs.host_folder.Folders.{HostPath}
+use Rattle.row_copy.specs.copy_rules.declared.copied.Totals.{Totals}
+use Rattle.row_copy.specs.copy_rules.Importing.{plain_of}
+use Rattle.row_copy.specs.copy_rules.Questions.{Question}
+use Rattle.row_copy.specs.copy_rules.declared.copied.CopyFail.TheVariants as fail
 use Rattle.copy_sessions.specs.Fitting.{Fits, kept_after}
 use Rattle.copy_sessions.specs.Laws.{AreFaultless, IsEndOf}
 use Rattle.run_status.specs.declared.status.Status.{Status}
 use Rattle.run_status.specs.declared.status.Status.TheVariants as status
-use Rattle.session_lines.specs.declared.end.End.{End}
+use Rattle.copy_sessions.specs.session_lines.declared.end.End.{End}
 use Rattle.row_copy.specs.declared.stop.Stop.{Stop}
 use Rattle.row_copy.specs.declared.stop.Stop.TheVariants as stop
 use Rattle.file_copies.specs.Coming.{IsPutSession, IsGetSession}

@@ -6,15 +6,15 @@ use Rattle.std.specs.declared.result.Result.TheVariants.{Ok, Err}
 use Rattle.outside.specs.Streams.{WereTaken, Ends}
 use Rattle.outside.specs.declared.vault.GetFail.{GetFail}
 use Rattle.outside.specs.declared.vault.GetFail.TheVariants as get_fail
-use Rattle.line_io.specs.Streams.{Stream, HasFailed, TookMost}
-use Rattle.session_lines.specs.Driven.{IsUnfailed}
+use Rattle.copy_sessions.specs.line_io.Streams.{Stream, HasFailed, TookMost}
+use Rattle.copy_sessions.specs.session_lines.Driven.{IsUnfailed}
 use Rattle.fs_model.specs.declared.command.Command.{Command}
 use Rattle.fs_model.specs.declared.command.Command.TheVariants as command
-use Rattle.host_folder.specs.Folders.{HostPath}
-use Rattle.copy_rules.specs.declared.copied.Totals.{Totals}
-use Rattle.copy_rules.specs.Ends.{counted, up_to}
-use Rattle.copy_rules.specs.Importing.{writes, pieces_of}
-use Rattle.copy_rules.specs.Questions.{Question, Asking, Asked, commands_of}
+use Rattle.row_copy.specs.host_folder.Folders.{HostPath}
+use Rattle.row_copy.specs.copy_rules.declared.copied.Totals.{Totals}
+use Rattle.row_copy.specs.copy_rules.Ends.{counted, up_to}
+use Rattle.row_copy.specs.copy_rules.Importing.{writes, pieces_of}
+use Rattle.row_copy.specs.copy_rules.Questions.{Question, Asking, Asked, commands_of}
 use Rattle.row_copy.specs.declared.stop.Stop.{Stop}
 use Rattle.row_copy.specs.declared.stop.Stop.TheVariants as stop
 use Rattle.row_copy.specs.Rows.{Asks, AsksFor, RowEnds}

@@ -1,16 +1,16 @@
 // The end of a put or a get as that of a session.
 ghost use Rattle.std.specs.Prelude.{◌≤◌};
-ghost use Rattle.line_io.specs.Streams.{stream_of};
+ghost use Rattle.copy_sessions.specs.line_io.Streams.{stream_of};
 ghost use Rattle.file_copies.specs.Coming.{IsPutTold, IsGetEnd};
 
-use answers::Answer;
-use copy_rules::{CopyFail, Totals};
+use copy_sessions::answers::Answer;
+use copy_sessions::session_lines::End;
 use copy_sessions::{CopyText, Way, stopped_status, tell_copy};
 use fs_model::Path;
 use outside::Sink;
 use row_copy::Stop;
+use row_copy::copy_rules::{CopyFail, Totals};
 use run_status::Status;
-use session_lines::End;
 
 /// Writes the line of a put at this path that ended so, with this answer kept, and gives its end and its status. Of an
 /// input that failed nothing is written.

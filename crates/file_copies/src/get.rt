@@ -1,14 +1,14 @@
 // The bytes of a file of a tree, to an output.
 ghost use Rattle.std.specs.Prelude.{◌≡◌, ◌≤◌};
-ghost use Rattle.line_io.specs.Streams.{stream_of};
+ghost use Rattle.copy_sessions.specs.line_io.Streams.{stream_of};
 ghost use Rattle.row_copy.specs.Rows.{StopsBy, NeverHost};
 ghost use Rattle.file_copies.specs.Getting.{PieceAsked, FileGot};
 
 use block_id::{Failed, Memory};
-use copy_rules::{Asker, Stopped};
+use copy_sessions::line_io::write_all;
 use fs_model::{ByteText, Command, Path, Reply};
-use line_io::write_all;
 use outside::Sink;
+use row_copy::copy_rules::{Asker, Stopped};
 use row_copy::{FILE_END, PIECE, Stop, copy_path};
 use std::alloc::Global;
 

@@ -11,3 +11,8 @@ pub use ending::{get_end, tell_put};
 pub use get::get_file;
 pub use law::{get_ends, get_tells, get_tells_part, put_ends, put_leaves, put_leaves_part};
 pub use put::put_file;
+
+// Handed on to crates above, which needn't list them.
+pub use copy_sessions;
+pub use copy_sessions::{answers, line_io, session_lines};
+pub use row_copy;

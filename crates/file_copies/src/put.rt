@@ -1,16 +1,16 @@
 // The bytes of an input, as a new file of a tree.
 ghost use Rattle.std.specs.Prelude.{◌≡◌, ◌≤◌, true, IfOk};
 ghost use Rattle.outside.specs.Streams.{Ends};
-ghost use Rattle.line_io.specs.Reading.{coming, total};
-ghost use Rattle.line_io.specs.Streams.{stream_of};
+ghost use Rattle.copy_sessions.specs.line_io.Reading.{coming, total};
+ghost use Rattle.copy_sessions.specs.line_io.Streams.{stream_of};
 ghost use Rattle.row_copy.specs.Rows.{StopsBy};
 ghost use Rattle.file_copies.specs.Putting.{IsTaken, PieceFaults, BytesPut, FilePut, InputBy};
 
 use block_id::{Failed, Memory};
-use copy_rules::{Asker, Totals};
+use copy_sessions::line_io::LineReader;
 use fs_model::Path;
-use line_io::LineReader;
 use outside::{GetFail, Source};
+use row_copy::copy_rules::{Asker, Totals};
 use row_copy::{FILE_END, PIECE, Stop, make_file, no_totals, write_piece};
 use std::alloc::Global;
 

@@ -2,9 +2,9 @@
 use crate::trees::{empty_tree, mixed, named, put};
 use copy_tests::PlainAsker;
 use file_copies::get_file;
+use file_copies::row_copy::Stop;
 use fs_model::FsError;
 use memory_outside::MemorySink;
-use row_copy::Stop;
 use std::alloc::Global;
 use std::test::Fail;
 

@@ -1,7 +1,7 @@
 // What a put makes of the bytes of an input.
 use crate::trees::{empty_tree, mixed, put, size_of};
+use file_copies::row_copy::Stop;
 use fs_model::FsError;
-use row_copy::Stop;
 use std::test::Fail;
 
 #[test]

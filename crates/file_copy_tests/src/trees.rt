@@ -1,12 +1,12 @@
 // A tree in memory, and what is put into it.
-use copy_rules::Totals;
 use copy_tests::PlainAsker;
+use copy_tests::copy_rules::Totals;
+use copy_tests::plain_tree::PlainTree;
+use file_copies::line_io::LineReader;
 use file_copies::put_file;
+use file_copies::row_copy::Stop;
 use fs_model::{Command, Moment, Name, Path, Reply};
-use line_io::LineReader;
 use memory_outside::MemorySource;
-use plain_tree::PlainTree;
-use row_copy::Stop;
 use std::alloc::Global;
 use std::test::Fail;
 

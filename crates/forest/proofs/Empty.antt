@@ -7,7 +7,7 @@ use Rattle.std.proofs.lemmas.List.Elements.{All-nil}
 use Rattle.std.proofs.lemmas.Option.{same_Some}
 use Rattle.block_id.specs.Fresh.{zero_id}
 use Rattle.block_id.proofs.Options.{none_is}
-use Rattle.blob_api.specs.BlobMap.{Id, BlobMap, id_cmp}
+use Rattle.fs_blobs.specs.blob_api.BlobMap.{Id, BlobMap, id_cmp}
 use Rattle.fs_model.specs.declared.attr.Kind.TheVariants.{Directory}
 use Rattle.fs_model.specs.Tree.{Path, Row, root_row, empty_tree}
 use Rattle.fs_model.proofs.TreeLemmas.{name_split, insert_here}

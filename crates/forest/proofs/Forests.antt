@@ -5,7 +5,7 @@ use Rattle.std.specs.FinMap.{get, insert, remove, get-insert, get-remove}
 use Rattle.std.specs.declared.option.Option.TheVariants.{None, Some}
 use Rattle.std.proofs.lemmas.Option.{same_Some, none-some}
 use Rattle.block_id.proofs.Options.{none_is, some_of}
-use Rattle.blob_api.specs.BlobMap.{Id, BlobMap}
+use Rattle.fs_blobs.specs.blob_api.BlobMap.{Id, BlobMap}
 use Rattle.fs_model.specs.declared.attr.Kind.{Kind}
 use Rattle.fs_model.specs.declared.attr.Kind.TheVariants.{Directory, File, Link}
 use Rattle.fs_model.specs.Tree.{Path, Row, Tree}

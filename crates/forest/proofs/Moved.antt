@@ -4,7 +4,7 @@ use Rattle.std.proofs.Common.{refl, sym, ◌∙◌, ap, subst, inl, inr, arith, 
 use Rattle.std.specs.FinMap.{get, insert, remove, same_map}
 use Rattle.std.proofs.lemmas.Option.{same_Some, none-some}
 use Rattle.block_id.proofs.Options.{none_is}
-use Rattle.blob_api.specs.BlobMap.{Id, BlobMap}
+use Rattle.fs_blobs.specs.blob_api.BlobMap.{Id, BlobMap}
 use Rattle.fs_model.specs.declared.attr.Kind.TheVariants.{Directory}
 use Rattle.fs_model.specs.Instant.{Instant}
 use Rattle.fs_model.specs.Tree.{Path, Row, Tree, is_folder, IsWellFormed}

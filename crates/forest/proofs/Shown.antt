@@ -6,7 +6,7 @@ use Rattle.std.specs.declared.option.Option.{Option}
 use Rattle.std.specs.declared.option.Option.TheVariants.{None, Some}
 use Rattle.std.proofs.lemmas.Option.{same_Some}
 use Rattle.block_id.proofs.Options.{none_is}
-use Rattle.blob_api.specs.BlobMap.{Id, BlobMap}
+use Rattle.fs_blobs.specs.blob_api.BlobMap.{Id, BlobMap}
 use Rattle.fs_model.specs.declared.attr.Kind.{Kind}
 use Rattle.fs_model.specs.declared.attr.Kind.TheVariants.{Directory, File, Link}
 use Rattle.fs_model.specs.Tree.{Path, Row, Tree, same_path, is_directory, is_folder, IsWellFormed}

@@ -1,7 +1,7 @@
 -- What entries, parents and ids are in the midst of a command, and after it.
 use Rattle.std.specs.Prelude.{cond, ◌∷◌}
 use Rattle.std.specs.declared.option.Option.{Option}
-use Rattle.blob_api.specs.BlobMap.{Id}
+use Rattle.fs_blobs.specs.blob_api.BlobMap.{Id}
 use Rattle.fs_model.specs.Tree.{Path, same_path}
 use Rattle.fs_model.specs.Move.{moved}
 use Rattle.dir_entries.specs.Layout.{EntryTarget}

@@ -1,6 +1,6 @@
 -- What a command on blobs that show a tree needs, and what it leaves.
 use Rattle.std.specs.Prelude.{◌≡◌}
-use Rattle.blob_api.specs.BlobMap.{Id, BlobMap, BlobHoldings}
+use Rattle.fs_blobs.specs.blob_api.BlobMap.{Id, BlobMap, BlobHoldings}
 use Rattle.fs_model.specs.declared.reply.Reply.{Reply}
 use Rattle.fs_model.specs.Tree.{Path, Tree}
 use Rattle.fs_model.specs.Step.{Stepped}

@@ -4,7 +4,7 @@ use Rattle.std.specs.FinMap.{get}
 use Rattle.std.specs.declared.option.Option.{Option}
 use Rattle.std.specs.declared.option.Option.TheVariants.{None, Some}
 use Rattle.block_id.specs.Fresh.{zero_id}
-use Rattle.blob_api.specs.BlobMap.{Id, BlobMap}
+use Rattle.fs_blobs.specs.blob_api.BlobMap.{Id, BlobMap}
 use Rattle.fs_model.specs.Tree.{Path, Row, Tree, IsWellFormed}
 use Rattle.dir_entries.specs.Layout.{EntryTarget}
 use Rattle.forest.specs.Nodes.{Look, IsForest}

@@ -1,8 +1,8 @@
 // Records byte by byte, and what a client says of each. Client 7 asks for block 1, which it knows at version 2, of blocks
 // of 128 bytes.
 use block_id::{BlockId, Why};
+use block_records::sealed_store::Seen;
 use block_records::{HEAD_LEN, Head, OVERHEAD, judge, read_head, write_record};
-use sealed_store::Seen;
 use std::alloc::Global;
 
 const ID: BlockId = BlockId([1; 16]);

@@ -8,8 +8,8 @@ use Rattle.held_blocks.specs.Held.{Held, live_version, waiting}
 use Rattle.held_blocks.specs.Loads.{LoadAnswers, loads_by}
 use Rattle.outside.specs.Changes.{change_at}
 use Rattle.outside.specs.Trace.{block, Call}
-use Rattle.redo_vault.specs.Redo.{Gave}
-use Rattle.store_api.specs.Content.{Id}
+use Rattle.held_blocks.specs.redo_vault.Redo.{Gave}
+use Rattle.held_blocks.specs.store_api.Content.{Id}
 use Rattle.given_reads.specs.Reads.{IsGivenBy, GivesReads}
 
 given_by : (h : Held) (old new : Option (List Call)) (id : Id) (payload : List ℕ) → h.list ≡ [] → (v : Option ℕ) → live_version h id ≡ v → LoadAnswers h old new id v (Ok (Some payload)) → IsGivenBy h old new id payload

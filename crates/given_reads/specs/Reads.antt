@@ -2,11 +2,11 @@
 use Rattle.std.specs.Prelude.{◌≡◌, ℕ, ◌+◌, List, [], ◌∷◌}
 use Rattle.std.specs.declared.option.Option.{Option}
 use Rattle.std.specs.declared.option.Option.TheVariants.{Some}
-use Rattle.block_records.specs.Verdicts.{good, verdict}
+use Rattle.held_blocks.specs.block_records.Verdicts.{good, verdict}
 use Rattle.block_walk.specs.Given.{Given}
 use Rattle.held_blocks.specs.Held.{Held, live_version}
 use Rattle.outside.specs.Trace.{block, Call, got, adds}
-use Rattle.store_api.specs.Content.{Id}
+use Rattle.held_blocks.specs.store_api.Content.{Id}
 
 -- the trace went on by one get of the block's file, with one byte more than a file has, and what came is this payload by the verdict
 pub record IsGivenBy (h : Held) (old new : Option (List Call)) (id : Id) (payload : List ℕ) : Type 0 where

@@ -1,8 +1,8 @@
 // One damage of the stored file system for each verdict on a block.
 
 use crate::system::{block_of, file_of, older_file_of, stored_system};
-use aes_gcm::Aes256Gcm;
-use config_file::open_config;
+use old_forms::aes_gcm::Aes256Gcm;
+use old_forms::config_file::open_config;
 use outside::FileName;
 use seal_api::Sealer;
 use std::alloc::Global;

@@ -1,6 +1,6 @@
 // New file systems in the forms of before block format 2, drawn from zeros. The root is block 1, and its child the first that a line made.
 
-use memory_outside::{MemoryKeeper, MemoryVault};
+use old_forms::memory_outside::{MemoryKeeper, MemoryVault};
 use old_forms::{Stored, in_older_forms};
 use std::alloc::Global;
 use std::test::Fail;

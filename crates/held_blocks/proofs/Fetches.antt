@@ -14,9 +14,9 @@ use Rattle.outside.specs.HonestLaws.{uncounted}
 use Rattle.outside.specs.Trace.{block, Call, got, adds}
 use Rattle.outside.specs.Changes.{cut}
 use Rattle.outside.specs.Honest.{count_calls, count_told}
-use Rattle.outcome.specs.Meanings.{IsNoticed, IsOfBlocks, OnVerdict, Tells}
-use Rattle.redo_vault.specs.Redo.{Gave}
-use Rattle.sealed_store.specs.BlockFiles.{opens_file, seen_file_in}
+use Rattle.store_api.specs.outcome.Meanings.{IsNoticed, IsOfBlocks, OnVerdict, Tells}
+use Rattle.block_records.specs.redo_vault.Redo.{Gave}
+use Rattle.block_records.specs.sealed_store.BlockFiles.{opens_file, seen_file_in}
 use Rattle.block_records.proofs.Judging.{came_len, good_opens, judged_structure}
 use Rattle.block_records.specs.VerdictLaws.{bad_is_good}
 use Rattle.block_records.specs.BlockRecords.{opened}

@@ -13,8 +13,8 @@ use Rattle.block_id.specs.declared.fail.Why.{Why}
 use Rattle.outside.specs.Honest.{count_told}
 use Rattle.outside.specs.Trace.{Call}
 use Rattle.outside.specs.View.{bytes_of}
-use Rattle.outcome.specs.Meanings.{HasCause, UnlessFault}
-use Rattle.outcome.specs.Outcome.{Outcome, passed}
+use Rattle.store_api.specs.outcome.Meanings.{HasCause, UnlessFault}
+use Rattle.store_api.specs.outcome.Outcome.{Outcome, passed}
 use Rattle.store_api.specs.Fronts.{front_of}
 use Rattle.store_api.specs.Holdings.{Stays}
 use Rattle.block_records.proofs.Judging.{came_len}

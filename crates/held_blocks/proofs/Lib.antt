@@ -6,3 +6,6 @@ pub mod Loading
 pub mod Reopening
 pub mod ToOpen
 pub mod Untouched
+-- Handed on to crates above, which name their lemmas so and needn't list them.
+pub use Rattle.block_records.proofs as block_records_lemmas
+pub use Rattle.store_api.proofs as store_api_lemmas

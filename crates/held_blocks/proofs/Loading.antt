@@ -10,8 +10,8 @@ use Rattle.block_id.specs.declared.fail.Fail.{Fail}
 use Rattle.outside.specs.Trace.{Call}
 use Rattle.outside.specs.Honest.{count_told}
 use Rattle.outside.specs.View.{bytes_of}
-use Rattle.outcome.specs.Meanings.{HasCause, UnlessFault}
-use Rattle.outcome.specs.Outcome.{Outcome}
+use Rattle.store_api.specs.outcome.Meanings.{HasCause, UnlessFault}
+use Rattle.store_api.specs.outcome.Outcome.{Outcome}
 use Rattle.local_state.specs.declared.life.Life.{Life}
 use Rattle.store_api.specs.Holdings.{Stays}
 use Rattle.local_state.specs.Known.{version_if_live}

@@ -7,8 +7,8 @@ use Rattle.std.proofs.Common.{sym, ◌∙◌, ap, subst, eq-eqb}
 use Rattle.block_id.specs.declared.fail.Why.{Why}
 use Rattle.block_id.specs.declared.fail.Why.TheVariants.{WrongId, ForeignClient, OldVersion, AheadVersion}
 use Rattle.block_id.specs.Formats.{extra_of, format_in}
-use Rattle.outcome.specs.Meanings.{NeedsNoMemory}
-use Rattle.sealed_store.specs.BlockFiles.{IsToOpen, bad_length, old_format, seen_as, seen_file_in, seen_file_of_plain}
+use Rattle.store_api.specs.outcome.Meanings.{NeedsNoMemory}
+use Rattle.block_records.specs.sealed_store.BlockFiles.{IsToOpen, bad_length, old_format, seen_as, seen_file_in, seen_file_of_plain}
 use Rattle.block_records.specs.BlockRecords.{Record, record_of}
 use Rattle.block_records.specs.Verdicts.{Verdict, bad, good, judged, judged_record, verdict}
 

@@ -12,7 +12,7 @@ use Rattle.outside.specs.Trace.{config, block, Call, got, put, removed}
 use Rattle.outside.specs.Changes.{cut}
 use Rattle.outside.specs.HonestLaws.{count_grows, uncounted}
 use Rattle.outside.specs.Honest.{same_answer, is_left, is_lie, count_calls, count_told}
-use Rattle.redo_vault.specs.Redo.{Gave}
+use Rattle.block_records.specs.redo_vault.Redo.{Gave}
 use Rattle.block_records.specs.RecordLaws.{cut_whole}
 use Rattle.block_records.specs.VerdictLaws.{bad_is_good, opened_good}
 use Rattle.block_records.specs.Verdicts.{bad, verdict}

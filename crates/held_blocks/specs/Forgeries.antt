@@ -4,7 +4,7 @@ use Rattle.std.specs.Str.{bytes_eq}
 use Rattle.std.specs.declared.option.Option.{Option}
 use Rattle.std.specs.declared.option.Option.TheVariants.{None, Some}
 use Rattle.outside.specs.Trace.{config, block, Call, got, put, removed}
-use Rattle.sealed_store.specs.BlockFiles.{opens_file}
+use Rattle.block_records.specs.sealed_store.BlockFiles.{opens_file}
 
 -- whether the call put these bytes
 abbrev pub puts : List ℕ → Call → Bool

@@ -13,7 +13,7 @@ use Rattle.outside.specs.Trace.{block, Call, got, put, removed, At}
 use Rattle.outside.specs.Honest.{LastChange, last_change, same_answer, is_left, is_lie, count_calls, count_told}
 use Rattle.outside.specs.HonestLaws.{count_grows}
 use Rattle.outside.specs.Names.{same_at}
-use Rattle.sealed_store.specs.BlockFiles.{opens_file}
+use Rattle.block_records.specs.sealed_store.BlockFiles.{opens_file}
 use Rattle.block_records.specs.RecordLaws.{none_is_some, opened-plain, opens-length}
 use Rattle.held_blocks.specs.Forgeries.{forged, opens_unput, was_put}
 use Rattle.held_blocks.specs.Held.{Held}

@@ -10,3 +10,10 @@ pub mod Standing
 pub mod StoreLaws
 pub mod Stores
 pub mod Views
+-- Handed on to crates above, which name their words so and needn't list them.
+pub use Rattle.block_records.specs as block_records
+pub use Rattle.local_state.specs as local_state
+pub use Rattle.store_api.specs.outcome as outcome
+pub use Rattle.block_records.specs.redo_vault as redo_vault
+pub use Rattle.block_records.specs.sealed_store as sealed_store
+pub use Rattle.store_api.specs as store_api

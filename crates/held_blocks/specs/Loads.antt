@@ -7,8 +7,8 @@ use Rattle.std.specs.declared.result.Result.TheVariants.{Ok, Err}
 use Rattle.block_id.specs.declared.fail.Fail.{Fail}
 use Rattle.block_id.specs.declared.fail.Fail.TheVariants.{Memory, Fault, Violation}
 use Rattle.outside.specs.Trace.{block, Call}
-use Rattle.redo_vault.specs.Redo.{Gave}
-use Rattle.sealed_store.specs.BlockFiles.{IsToOpen}
+use Rattle.block_records.specs.redo_vault.Redo.{Gave}
+use Rattle.block_records.specs.sealed_store.BlockFiles.{IsToOpen}
 use Rattle.store_api.specs.Loads.{LoadAnswer}
 use Rattle.block_records.specs.Verdicts.{bad, good, verdict}
 use Rattle.held_blocks.specs.Held.{Held, live_version, waiting}

@@ -11,7 +11,7 @@ use Rattle.block_id.specs.declared.fail.Why.{Why}
 use Rattle.block_id.specs.Fresh.{zero_id}
 use Rattle.outside.specs.Trace.{Call}
 use Rattle.outside.specs.Honest.{is_lie, count_told}
-use Rattle.outcome.specs.Meanings.{Lawful}
+use Rattle.store_api.specs.outcome.Meanings.{Lawful}
 use Rattle.local_state.specs.declared.life.Life.{Life}
 use Rattle.local_state.specs.Known.{FitLives, version_if_live, is_last}
 use Rattle.store_api.specs.Content.{Id}

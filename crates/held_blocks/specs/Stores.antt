@@ -7,12 +7,12 @@ use Rattle.block_id.specs.declared.sizes.TheConstants.{MIN_BLOCK, MAX_BLOCK}
 use Rattle.outside.specs.Trace.{config, Call}
 use Rattle.outside.specs.Changes.{change_at}
 use Rattle.outside.specs.Honest.{is_lie, count_told}
-use Rattle.outcome.specs.Meanings.{Meanings}
+use Rattle.store_api.specs.outcome.Meanings.{Meanings}
 use Rattle.local_state.specs.declared.life.Life.{Life}
 use Rattle.local_state.specs.Known.{is_last}
 use Rattle.local_state.specs.Record.{HasRecord}
 use Rattle.store_api.specs.Holdings.{Holdings}
-use Rattle.sealed_store.specs.BlockFiles.{OpensAlike}
+use Rattle.block_records.specs.sealed_store.BlockFiles.{OpensAlike}
 use Rattle.block_id.specs.Formats.{magic}
 use Rattle.held_blocks.specs.Forgeries.{forged}
 use Rattle.held_blocks.specs.Held.{Held, wanted}

@@ -3,7 +3,7 @@ use Rattle.std.specs.Prelude.{ℕ, List}
 use Rattle.std.specs.declared.option.Option.{Option}
 use Rattle.local_state.specs.declared.state.State.{State}
 use Rattle.local_state.specs.Record.{plain_state}
-use Rattle.sealed_store.specs.Stores.{Sealed, block_size_of, key_of, cipher_of}
+use Rattle.block_records.specs.sealed_store.Stores.{Sealed, block_size_of, key_of, cipher_of}
 use Rattle.held_blocks.specs.Held.{Held}
 
 -- the size of a block and the list of a sealed store, what its sealed texts open to by its cipher and key, and a state

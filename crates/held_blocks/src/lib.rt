@@ -5,3 +5,9 @@
 mod laws;
 
 pub use laws::config_is_no_block;
+
+// Handed on to crates above, which needn't list them.
+pub use block_records;
+pub use block_records::{redo_vault, sealed_store};
+pub use local_state;
+pub use store_api;

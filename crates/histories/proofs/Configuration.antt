@@ -6,22 +6,22 @@ use Rattle.std.specs.declared.option.Option.{Option}
 use Rattle.std.specs.declared.option.Option.TheVariants.{None, Some}
 use Rattle.std.proofs.lemmas.Option.{same_Some}
 use Rattle.std.proofs.lemmas.Bool.{not-false}
-use Rattle.config_file.proofs.Opening.{only}
-use Rattle.config_file.specs.ConfigOf.{ConfigOf, opened, locked}
-use Rattle.config_file.specs.Format.{HasForm}
-use Rattle.config_file.specs.Settings.{Settings}
-use Rattle.integrity_store.specs.EnduringLaws.{configured_of}
-use Rattle.held_blocks.specs.Standing.{Configures, records}
-use Rattle.mount_tower.specs.Identities.{KeepsRecord}
-use Rattle.mount_tower.specs.Unforged.{IsOnlyConfig}
+use Rattle.session_runs.proofs.config_file_lemmas.Opening.{only}
+use Rattle.session_runs.specs.config_file.ConfigOf.{ConfigOf, opened, locked}
+use Rattle.session_runs.specs.config_file.Format.{HasForm}
+use Rattle.session_runs.specs.config_file.Settings.{Settings}
+use Rattle.session_runs.specs.integrity_store.EnduringLaws.{configured_of}
+use Rattle.session_runs.specs.held_blocks.Standing.{Configures, records}
+use Rattle.session_runs.specs.mount_tower.Identities.{KeepsRecord}
+use Rattle.session_runs.specs.mount_tower.Unforged.{IsOnlyConfig}
 use Rattle.outside.specs.Changes.{FileChanges, change_at}
 use Rattle.outside.specs.Honest.{last_change, same_answer, is_left, is_lie, count_calls, count_told}
 use Rattle.outside.specs.HonestLaws.{count_grows, uncounted}
 use Rattle.outside.specs.Trace.{Call, config, got}
-use Rattle.local_state.specs.Record.{PlainState}
+use Rattle.session_runs.specs.local_state.Record.{PlainState}
 use Rattle.scrypt_kdf.specs.Cost.{Cost}
-use Rattle.session_saver.specs.Saving.{KeptConfigures}
-use Rattle.store_api.specs.Durables.{last_told, IsConfigured}
+use Rattle.session_runs.specs.session_saver.Saving.{KeptConfigures}
+use Rattle.session_runs.specs.store_api.Durables.{last_told, IsConfigured}
 
 -- ---- what the kept file is under the password, each other one that is the same is
 

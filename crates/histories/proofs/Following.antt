@@ -1,14 +1,14 @@
 -- Runs compose.
 use Rattle.std.proofs.Common.{◌≡◌, ◌⊎◌, ◌||◌, ℕ, Bool, true, false, List, [], ◌∷◌, refl, sym, subst, inl, inr}
 use Rattle.std.proofs.lemmas.Bool.{or_left, or_right}
-use Rattle.answers.specs.Sessions.{latest, violated}
-use Rattle.config_file.specs.Settings.{Settings}
+use Rattle.session_runs.specs.answers.Sessions.{latest, violated}
+use Rattle.session_runs.specs.config_file.Settings.{Settings}
 use Rattle.fs_model.specs.Tree.{Tree}
-use Rattle.held_blocks.specs.Standing.{records}
-use Rattle.mount_core.specs.Showing.{Showing}
-use Rattle.mount_core.specs.Standing.{IsKeptMarked}
-use Rattle.mount.specs.Representing.{Represents}
-use Rattle.mount.proofs.Reading.{loaded_unmarked}
+use Rattle.session_runs.specs.held_blocks.Standing.{records}
+use Rattle.session_runs.specs.mount_core.Showing.{Showing}
+use Rattle.session_runs.specs.mount_core.Standing.{IsKeptMarked}
+use Rattle.session_runs.specs.mount.Representing.{Represents}
+use Rattle.session_runs.proofs.mount_lemmas.Reading.{loaded_unmarked}
 use Rattle.session_runs.specs.Runs.{Outside, OutsideStandsFor, OpensTo, IsFounded, IsExaminedRun, IsMigrationRun}
 use Rattle.histories.specs.Histories.{Run, session, quiet, examined, migrated, before_of, after_of, exchanges_of, condemns, IsRun, IsUnforgedRun, GoesOnFrom, AreRuns, end_of, was_violated, IsRefusedRun, RunsFrom, Follow, EndsWith}
 

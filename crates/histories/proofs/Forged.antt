@@ -3,19 +3,19 @@ use Rattle.std.proofs.Common.{◌≡◌, ◌⊎◌, ◌≤◌, ◌<◌, ◌∙�
 use Rattle.std.proofs.lemmas.Bool.{cases_lt}
 use Rattle.std.specs.Prelude.{Result}
 use Rattle.std.specs.declared.option.Option.{Option}
-use Rattle.aes_gcm.specs.Gcm.{opened_of}
-use Rattle.answers.specs.Hosts.{Hosting, Ran}
-use Rattle.answers.specs.Sessions.{Exchange}
-use Rattle.config_file.specs.Settings.{Settings, settings_of}
+use Rattle.session_runs.specs.aes_gcm.Gcm.{opened_of}
+use Rattle.session_runs.specs.answers.Hosts.{Hosting, Ran}
+use Rattle.session_runs.specs.answers.Sessions.{Exchange}
+use Rattle.session_runs.specs.config_file.Settings.{Settings, settings_of}
 use Rattle.fs_model.specs.Instant.{Instant}
 use Rattle.fs_model.specs.Tree.{Tree}
-use Rattle.held_blocks.specs.Forgeries.{forged}
-use Rattle.mount.proofs.Reading.{represents_told}
-use Rattle.mount.specs.Answering.{store_of, calls_of, forgeries_of}
-use Rattle.mount.specs.Representing.{Represents}
-use Rattle.mount.specs.Tower.{TowerStands}
-use Rattle.mount.specs.declared.mount.Mount.{Mount}
-use Rattle.mount_tower.specs.Tower.{tower_durables}
+use Rattle.session_runs.specs.held_blocks.Forgeries.{forged}
+use Rattle.session_runs.proofs.mount_lemmas.Reading.{represents_told}
+use Rattle.session_runs.specs.mount.Answering.{store_of, calls_of, forgeries_of}
+use Rattle.session_runs.specs.mount.Representing.{Represents}
+use Rattle.session_runs.specs.mount.Tower.{TowerStands}
+use Rattle.session_runs.specs.mount.declared.mount.Mount.{Mount}
+use Rattle.session_runs.specs.mount_tower.Tower.{tower_durables}
 use Rattle.outside.specs.Going.{goes_on_onward}
 use Rattle.outside.specs.Honest.{count_told}
 use Rattle.outside.specs.Trace.{Call}
@@ -26,9 +26,9 @@ use Rattle.session_runs.specs.Answering.{mount_hosting}
 use Rattle.session_runs.specs.Passing.{Passed, PassedTrees}
 use Rattle.session_runs.specs.Runs.{OpensTo, forgeries, outside_of}
 use Rattle.session_runs.specs.Turns.{OnMount}
-use Rattle.session_saver.specs.declared.saver.SyncError.{SyncError}
-use Rattle.store_api.specs.Durables.{Identity}
-use Rattle.mount_core.specs.Showing.{Showing}
+use Rattle.session_runs.specs.session_saver.declared.saver.SyncError.{SyncError}
+use Rattle.session_runs.specs.store_api.Durables.{Identity}
+use Rattle.session_runs.specs.mount_core.Showing.{Showing}
 use Rattle.histories.specs.Forgeries.{forgeries_at, RoseAt, RightUntilForged}
 
 -- ---- up to the line in whose answer a count rises

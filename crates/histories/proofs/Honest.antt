@@ -1,19 +1,19 @@
 -- Where a directory gave what was last written, nothing that opens was forged.
 use Rattle.std.proofs.Common.{◌≡◌, ◌≤◌, ◌||◌, ℕ, Bool, false, List, [], ◌∷◌, refl, sym, ap, ◌∙◌, inl, inr, arith}
 use Rattle.std.specs.declared.option.Option.{Option}
-use Rattle.aes_gcm.specs.Gcm.{opened_of}
-use Rattle.held_blocks.specs.Forgeries.{forged}
+use Rattle.session_runs.specs.aes_gcm.Gcm.{opened_of}
+use Rattle.session_runs.specs.held_blocks.Forgeries.{forged}
 use Rattle.outside.specs.Honest.{count_told}
 use Rattle.outside.specs.Trace.{Call}
-use Rattle.answers.specs.Sessions.{latest}
-use Rattle.config_file.specs.Settings.{Settings}
+use Rattle.session_runs.specs.answers.Sessions.{latest}
+use Rattle.session_runs.specs.config_file.Settings.{Settings}
 use Rattle.fs_model.specs.Tree.{Tree}
-use Rattle.held_blocks.specs.Standing.{records}
-use Rattle.mount_core.specs.Showing.{Showing}
-use Rattle.mount_core.specs.Standing.{IsKeptMarked}
-use Rattle.mount_tower.specs.Unforged.{IsOnlyConfig, IsUnforgedConfig}
-use Rattle.mount.proofs.Reading.{loaded_unmarked}
-use Rattle.mount_tower.proofs.Reading.{only_unforged}
+use Rattle.session_runs.specs.held_blocks.Standing.{records}
+use Rattle.session_runs.specs.mount_core.Showing.{Showing}
+use Rattle.session_runs.specs.mount_core.Standing.{IsKeptMarked}
+use Rattle.session_runs.specs.mount_tower.Unforged.{IsOnlyConfig, IsUnforgedConfig}
+use Rattle.session_runs.proofs.mount_lemmas.Reading.{loaded_unmarked}
+use Rattle.session_runs.proofs.mount_tower_lemmas.Reading.{only_unforged}
 use Rattle.session_runs.specs.Runs.{Outside, OutsideStandsFor, lies}
 use Rattle.session_runs.proofs.Whole.{unviolated}
 use Rattle.histories.specs.Histories.{Run, session, quiet, examined, migrated, before_of, condemns, was_violated, IsRun, IsUnforgedRun, AreRuns, end_of, OpensOrLocks, OpensOnly, IsHonestRun, AreHonestRuns}

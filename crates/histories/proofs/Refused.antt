@@ -4,21 +4,21 @@ use Rattle.std.proofs.lemmas.List.{take_all}
 use Rattle.std.proofs.lemmas.Option.{same_Some, none-some}
 use Rattle.std.specs.declared.option.Option.{Option}
 use Rattle.std.specs.declared.option.Option.TheVariants.{None, Some}
-use Rattle.config_file.proofs.Opening.{only}
-use Rattle.config_file.specs.ConfigOf.{ConfigOf, ConfigFound, opened, form, locked, inner}
-use Rattle.config_file.specs.Settings.{Settings, settings_of}
-use Rattle.config_file.specs.declared.error.ConfigError.TheVariants as config_error
-use Rattle.local_state.specs.Record.{PlainState}
-use Rattle.mount.specs.Opening.{AttachCause}
-use Rattle.mount_tower.specs.Opening.{IsLoaded, GaveConfig, IsMismatch, IsOf}
-use Rattle.mount_tower.proofs.Reading.{same_kept}
-use Rattle.mount_tower.specs.Identities.{KeepsRecord}
-use Rattle.mount_tower.specs.Unforged.{IsUnforgedConfig}
-use Rattle.mount_tower.specs.declared.error.OpenError.{OpenError}
-use Rattle.mount_tower.specs.declared.error.OpenError.TheVariants as open_error
+use Rattle.session_runs.proofs.config_file_lemmas.Opening.{only}
+use Rattle.session_runs.specs.config_file.ConfigOf.{ConfigOf, ConfigFound, opened, form, locked, inner}
+use Rattle.session_runs.specs.config_file.Settings.{Settings, settings_of}
+use Rattle.session_runs.specs.config_file.declared.error.ConfigError.TheVariants as config_error
+use Rattle.session_runs.specs.local_state.Record.{PlainState}
+use Rattle.session_runs.specs.mount.Opening.{AttachCause}
+use Rattle.session_runs.specs.mount_tower.Opening.{IsLoaded, GaveConfig, IsMismatch, IsOf}
+use Rattle.session_runs.proofs.mount_tower_lemmas.Reading.{same_kept}
+use Rattle.session_runs.specs.mount_tower.Identities.{KeepsRecord}
+use Rattle.session_runs.specs.mount_tower.Unforged.{IsUnforgedConfig}
+use Rattle.session_runs.specs.mount_tower.declared.error.OpenError.{OpenError}
+use Rattle.session_runs.specs.mount_tower.declared.error.OpenError.TheVariants as open_error
 use Rattle.outside.specs.Changes.{FileChanges, change_at}
 use Rattle.outside.specs.Trace.{Call, config, got, adds}
-use Rattle.redo_vault.specs.Redo.{Gave}
+use Rattle.session_runs.specs.redo_vault.Redo.{Gave}
 use Rattle.scrypt_kdf.specs.Cost.{Cost}
 use Rattle.histories.specs.Histories.{StopsAtConfig}
 use Rattle.histories.proofs.Configuration.{same_settings}

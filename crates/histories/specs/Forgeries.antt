@@ -1,15 +1,15 @@
 -- What a session answered before the directory gave the first forged file of a block. The newest exchange and tree stand first.
 use Rattle.std.specs.Prelude.{◌≡◌, ◌⊎◌, ◌<◌, ℕ, List, ◌∷◌, ◌++◌, Result}
 use Rattle.std.specs.declared.option.Option.{Option}
-use Rattle.aes_gcm.specs.Gcm.{opened_of}
-use Rattle.answers.specs.Hosts.{Hosting, Ran}
-use Rattle.answers.specs.Sessions.{Exchange, IsSession, violated}
-use Rattle.config_file.specs.Settings.{Settings}
+use Rattle.session_runs.specs.aes_gcm.Gcm.{opened_of}
+use Rattle.session_runs.specs.answers.Hosts.{Hosting, Ran}
+use Rattle.session_runs.specs.answers.Sessions.{Exchange, IsSession, violated}
+use Rattle.session_runs.specs.config_file.Settings.{Settings}
 use Rattle.fs_model.specs.Instant.{Instant}
 use Rattle.fs_model.specs.Tree.{Tree}
-use Rattle.held_blocks.specs.Forgeries.{forged}
-use Rattle.mount.specs.Answering.{calls_of}
-use Rattle.mount.specs.declared.mount.Mount.{Mount}
+use Rattle.session_runs.specs.held_blocks.Forgeries.{forged}
+use Rattle.session_runs.specs.mount.Answering.{calls_of}
+use Rattle.session_runs.specs.mount.declared.mount.Mount.{Mount}
 use Rattle.outside.specs.Honest.{count_told}
 use Rattle.outside.specs.Trace.{Call}
 use Rattle.outside.specs.declared.keeper.Keeper.{Ghosts as KeeperGhosts}
@@ -18,8 +18,8 @@ use Rattle.session_runs.specs.Causes.{AreBuilt}
 use Rattle.session_runs.specs.Passing.{LeftAt}
 use Rattle.session_runs.specs.Runs.{OpensTo, forgeries, outside_of}
 use Rattle.session_runs.specs.Turns.{OnMount}
-use Rattle.session_saver.specs.declared.saver.SyncError.{SyncError}
-use Rattle.mount_core.specs.Showing.{Showing}
+use Rattle.session_runs.specs.session_saver.declared.saver.SyncError.{SyncError}
+use Rattle.session_runs.specs.mount_core.Showing.{Showing}
 
 -- how many files of blocks the directory gave up to now that open and were never put
 abbrev pub forgeries_at : {V : Type 0} → {K : Type 0} → (V → Option (List Call)) → Settings → Mount V K → ℕ

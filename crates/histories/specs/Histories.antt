@@ -3,28 +3,28 @@ use Rattle.std.specs.Prelude.{◌≡◌, ◌⊎◌, ◌≤◌, ◌||◌, ℕ, Bo
 use Rattle.std.specs.declared.option.Option.{Option}
 use Rattle.std.specs.declared.result.Result.TheVariants.{Ok}
 use Rattle.block_id.specs.declared.id.BlockId.{BlockId}
-use Rattle.answers.specs.Sessions.{Exchange, IsSession, IsKeptPoint, latest, violated}
-use Rattle.config_file.specs.ConfigOf.{ConfigOf, locked}
-use Rattle.config_file.specs.Settings.{Settings}
-use Rattle.config_file.specs.declared.error.ConfigError.TheVariants as config_error
+use Rattle.session_runs.specs.answers.Sessions.{Exchange, IsSession, IsKeptPoint, latest, violated}
+use Rattle.session_runs.specs.config_file.ConfigOf.{ConfigOf, locked}
+use Rattle.session_runs.specs.config_file.Settings.{Settings}
+use Rattle.session_runs.specs.config_file.declared.error.ConfigError.TheVariants as config_error
 use Rattle.fs_model.specs.Instant.{Instant}
 use Rattle.fs_model.specs.Tree.{Tree, empty_tree}
-use Rattle.aes_gcm.specs.Gcm.{opened_of}
-use Rattle.held_blocks.specs.Forgeries.{forged}
-use Rattle.held_blocks.specs.Standing.{records}
+use Rattle.session_runs.specs.aes_gcm.Gcm.{opened_of}
+use Rattle.session_runs.specs.held_blocks.Forgeries.{forged}
+use Rattle.session_runs.specs.held_blocks.Standing.{records}
 use Rattle.outside.specs.Going.{GoesOn}
 use Rattle.outside.specs.Trace.{Call}
 use Rattle.outside.specs.Honest.{NonePassSince}
 use Rattle.outside.specs.HonestLaws.{none_since_where_no_rise, no_rise_where_none_since}
-use Rattle.session_saver.specs.Saving.{KeptConfigures}
-use Rattle.session_saver.specs.declared.saver.SyncError.{SyncError}
-use Rattle.mount_core.specs.Showing.{Showing}
-use Rattle.mount_core.specs.Standing.{IsKeptMarked}
-use Rattle.mount.specs.Making.{Created}
-use Rattle.mount.specs.Opening.{AttachCause}
-use Rattle.mount_tower.specs.declared.error.OpenError.{OpenError}
-use Rattle.mount_tower.specs.declared.error.OpenError.TheVariants.{Mismatch, NoConfig, Config as OfConfig}
-use Rattle.mount_tower.specs.Unforged.{IsOnlyConfig, IsUnforgedConfig}
+use Rattle.session_runs.specs.session_saver.Saving.{KeptConfigures}
+use Rattle.session_runs.specs.session_saver.declared.saver.SyncError.{SyncError}
+use Rattle.session_runs.specs.mount_core.Showing.{Showing}
+use Rattle.session_runs.specs.mount_core.Standing.{IsKeptMarked}
+use Rattle.session_runs.specs.mount.Making.{Created}
+use Rattle.session_runs.specs.mount.Opening.{AttachCause}
+use Rattle.session_runs.specs.mount_tower.declared.error.OpenError.{OpenError}
+use Rattle.session_runs.specs.mount_tower.declared.error.OpenError.TheVariants.{Mismatch, NoConfig, Config as OfConfig}
+use Rattle.session_runs.specs.mount_tower.Unforged.{IsOnlyConfig, IsUnforgedConfig}
 use Rattle.session_runs.specs.Causes.{AreBuilt}
 use Rattle.session_runs.specs.Runs.{Outside, OutsideStandsFor, PasswordOpens, forgeries, lies, AreCalm, IsSessionRun, IsQuietRun, IsExaminedRun, IsMigrationRun}
 

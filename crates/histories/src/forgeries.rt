@@ -1,5 +1,5 @@
 // What a session answered before a forged file came.
-ghost use Rattle.mount_core.specs.Showing.{ShowsFiles};
+ghost use Rattle.session_runs.specs.mount_core.Showing.{ShowsFiles};
 ghost use Rattle.histories.specs.Forgeries.{RepliesStayRight};
 
 use outside::{Keeper, Vault};

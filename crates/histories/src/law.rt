@@ -1,5 +1,5 @@
 // What one run leaves is what the next one needs.
-ghost use Rattle.mount_core.specs.Showing.{ShowsFiles};
+ghost use Rattle.session_runs.specs.mount_core.Showing.{ShowsFiles};
 ghost use Rattle.histories.specs.Histories.{RunsCompose, RunsComposeFromCreate, RefusedIsUnforged, HonestRunOpensOnly, HonestRunIsUnforged, HonestRunsCompose, HonestRunIsCalm, HonestRunsAreCalm};
 
 /// Whatever the block directory returns, loses or refuses in any list of runs: each answers as a session of the plain tree from

@@ -6,3 +6,6 @@ mod law;
 
 pub use forgeries::replies_stay_right;
 pub use law::{honest_runs_are_unforged, runs_compose};
+
+// Handed on to crates above, which needn't list them.
+pub use session_runs::{aes_gcm, config_file, local_state};

@@ -11,7 +11,7 @@ use Rattle.outside.specs.declared.vault.GetFail.{GetFail}
 use Rattle.outside.specs.declared.vault.GetFail.TheVariants.{Memory, Failed}
 use Rattle.outside.specs.Causes.{one_more}
 use Rattle.outside.specs.Changes.{FileChanges}
-use Rattle.listing.specs.FileTexts.{text_of_file}
+use Rattle.memory_outside.specs.listing.FileTexts.{text_of_file}
 use Rattle.memory_outside.specs.FileNames.{after_first, file_names, all_names, with_name, without_name}
 use Rattle.memory_outside.specs.Vaults.{VaultState, is_listed, get_fails, names_in, after_list}
 use Rattle.honest_outside.specs.Honest.{IsHonestVault}

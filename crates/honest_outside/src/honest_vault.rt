@@ -8,8 +8,8 @@ ghost use Rattle.outside.specs.View.{at_of, bytes_of};
 ghost use Rattle.memory_outside.specs.Vaults.{names_in};
 ghost use Rattle.honest_outside.specs.Honest.{IsHonestVault};
 
-use listing::{ByteLine, Listing, MAX_NAMES};
 use memory_outside::MemoryVault;
+use memory_outside::listing::{ByteLine, Listing, MAX_NAMES};
 use outside::{FileName, GetFail, Vault};
 use std::alloc::Global;
 use std::marker::Model;

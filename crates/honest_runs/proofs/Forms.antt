@@ -1,12 +1,12 @@
 -- What the two words ask for.
 use Rattle.std.proofs.Common.{◌≡◌, [], ◌∷◌, Some, codes, refl}
 use Rattle.clap.specs.Faults.{walk_fault, defaults_fault}
-use Rattle.shell_words.specs.CreateOptions.{options_of, options_at, cost_at, number_at, number_within, is_power}
-use Rattle.shell_words.specs.CreateCommand.{create_app}
-use Rattle.shell_words.specs.Forms.{form_of, plain_form, single_form}
-use Rattle.script_text.specs.Grammar.{verb_of}
-use Rattle.shell_words.specs.declared.create_options.CreateOptions.{CreateOptions}
-use Rattle.shell_words.specs.declared.form.Form.TheVariants.{Create, Shell}
+use Rattle.cryfs_shell.specs.shell_words.CreateOptions.{options_of, options_at, cost_at, number_at, number_within, is_power}
+use Rattle.cryfs_shell.specs.shell_words.CreateCommand.{create_app}
+use Rattle.cryfs_shell.specs.shell_words.Forms.{form_of, plain_form, single_form}
+use Rattle.completeness.specs.script_text.Grammar.{verb_of}
+use Rattle.cryfs_shell.specs.shell_words.declared.create_options.CreateOptions.{CreateOptions}
+use Rattle.cryfs_shell.specs.shell_words.declared.form.Form.TheVariants.{Create, Shell}
 
 -- blocks of 16,384 bytes, and the usual cost
 abbrev pub usual : CreateOptions

@@ -3,12 +3,12 @@ use Rattle.std.proofs.Common.{◌≡◌, ◌⊎◌, ◌∙◌, ℕ, Bool, true, 
 use Rattle.std.specs.Prelude.{◌≢◌, Result, OnOk}
 use Rattle.std.specs.declared.option.Option.{Option}
 use Rattle.std.specs.declared.result.Result.TheVariants.{Ok, Err}
-use Rattle.answers.specs.Sessions.{violated}
+use Rattle.cryfs_shell.specs.answers.Sessions.{violated}
 use Rattle.block_id.specs.declared.id.BlockId.{BlockId}
-use Rattle.config_file.specs.declared.error.ConfigError.TheVariants as config_error
+use Rattle.cryfs_shell.specs.config_file.declared.error.ConfigError.TheVariants as config_error
 use Rattle.cryfs_shell.specs.cryfs_setup.Create.{RanCreate}
 use Rattle.fs_model.specs.Instant.{Instant}
-use Rattle.line_io.specs.Streams.{Stream}
+use Rattle.cryfs_shell.specs.line_io.Streams.{Stream}
 use Rattle.cryfs_shell.specs.mount_tower.declared.draws.Draws.{Draws}
 use Rattle.cryfs_shell.specs.mount.Making.{KnowsOnly}
 use Rattle.cryfs_shell.specs.mount_tower.Making.{root_of}
@@ -16,17 +16,17 @@ use Rattle.cryfs_shell.specs.mount_tower.declared.error.OpenError.{OpenError}
 use Rattle.cryfs_shell.specs.mount_tower.declared.error.OpenError.TheVariants as open_error
 use Rattle.outside.specs.Trace.{Call}
 use Rattle.outside.specs.declared.keeper.Keeper.{Ghosts as KeeperGhosts}
-use Rattle.passwords.specs.Passwords.{PasswordUnread}
-use Rattle.run_edges.specs.Statuses.{opening_status, session_status}
+use Rattle.cryfs_shell.specs.passwords.Passwords.{PasswordUnread}
+use Rattle.cryfs_shell.specs.run_edges.Statuses.{opening_status, session_status}
 use Rattle.run_status.specs.Statuses.{first_of}
 use Rattle.run_status.specs.declared.ended.Ended.{Ended}
 use Rattle.run_status.specs.declared.status.Status.{Status}
 use Rattle.run_status.specs.declared.status.Status.TheVariants as status
 use Rattle.scrypt_kdf.specs.Cost.{Cost}
-use Rattle.session_lines.specs.Driven.{IsUnfailed}
-use Rattle.session_lines.specs.declared.end.End.{End}
-use Rattle.session_lines.specs.declared.end.End.TheVariants.{Finished, InputFault, OutputFault}
-use Rattle.session_saver.specs.declared.saver.SyncError.{SyncError}
+use Rattle.cryfs_shell.specs.session_lines.Driven.{IsUnfailed}
+use Rattle.cryfs_shell.specs.session_lines.declared.end.End.{End}
+use Rattle.cryfs_shell.specs.session_lines.declared.end.End.TheVariants.{Finished, InputFault, OutputFault}
+use Rattle.completeness.specs.session_saver.declared.saver.SyncError.{SyncError}
 use Rattle.cryfs_shell.specs.setup_texts.CreateText.{Reports, created_text}
 use Rattle.cryfs_shell.specs.setup_texts.Printing.{Printed}
 use Rattle.cryfs_shell.specs.shell_sessions.Sessions.{Session, IsServed, ComesShell}

@@ -6,24 +6,24 @@ use Rattle.std.specs.declared.option.Option.{Option}
 use Rattle.std.specs.declared.option.Option.TheVariants.{Some}
 use Rattle.std.proofs.lemmas.Bool.{cases_Bool}
 use Rattle.std.proofs.lemmas.List.{length-map}
-use Rattle.answers.specs.Sessions.{Exchange}
-use Rattle.answers.specs.declared.answer.Answer.{Answer}
-use Rattle.answers.specs.declared.answer.Answer.TheVariants.{Reply as Replied, Memory, Spent, FaultDirectory, FaultState, Violation, Refused}
+use Rattle.cryfs_shell.specs.answers.Sessions.{Exchange}
+use Rattle.cryfs_shell.specs.answers.declared.answer.Answer.{Answer}
+use Rattle.cryfs_shell.specs.answers.declared.answer.Answer.TheVariants.{Reply as Replied, Memory, Spent, FaultDirectory, FaultState, Violation, Refused}
 use Rattle.completeness.specs.Sessions.{IsFaultless, AreFaultless}
-use Rattle.held_blocks.specs.Stores.{version_in}
-use Rattle.line_io.specs.Lines.{lines, is_newline, onto_first}
-use Rattle.local_state.specs.Record.{PlainState}
+use Rattle.cryfs_shell.specs.held_blocks.Stores.{version_in}
+use Rattle.cryfs_shell.specs.line_io.Lines.{lines, is_newline, onto_first}
+use Rattle.completeness.specs.local_state.Record.{PlainState}
 use Rattle.cryfs_shell.specs.mount.Making.{KnowsOnly}
 use Rattle.cryfs_shell.specs.mount_core.Answers.{OnSpent}
 use Rattle.cryfs_shell.specs.mount_tower.Opening.{IsLoaded}
-use Rattle.cryfs_shell.proofs.mount_tower.Reading.{are_known}
+use Rattle.cryfs_shell.proofs.mount_tower_lemmas.Reading.{are_known}
 use Rattle.outside.specs.Changes.{FileChanges}
-use Rattle.passwords.specs.Passwords.{IsNextPassword}
-use Rattle.script_text.specs.Grammar.{command_of}
-use Rattle.session_lines.specs.Asking.{asked_in, AskedAll}
+use Rattle.cryfs_shell.specs.passwords.Passwords.{IsNextPassword}
+use Rattle.completeness.specs.script_text.Grammar.{command_of}
+use Rattle.cryfs_shell.specs.session_lines.Asking.{asked_in, AskedAll}
 use Rattle.cryfs_shell.specs.session_runs.Causes.{AreSpent, SpentSince}
-use Rattle.store_api.specs.Content.{same_id}
-use Rattle.store_api.proofs.Rising.{same_id_is}
+use Rattle.completeness.specs.store_api.Content.{same_id}
+use Rattle.completeness.proofs.store_api_lemmas.Rising.{same_id_is}
 use Rattle.honest_runs.specs.Made.{password}
 use Rattle.honest_runs.specs.Transcript.{IsReplyOrMemory, AreRepliesOrMemory}
 

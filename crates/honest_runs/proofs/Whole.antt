@@ -4,22 +4,22 @@ use Rattle.std.specs.Prelude.{◌≢◌}
 use Rattle.std.specs.declared.option.Option.{Option}
 use Rattle.std.specs.declared.option.Option.TheVariants.{Some}
 use Rattle.std.proofs.lemmas.Option.{same_Some}
-use Rattle.answers.specs.Sessions.{IsSession}
+use Rattle.cryfs_shell.specs.answers.Sessions.{IsSession}
 use Rattle.completeness.specs.Premises.{IsUntroubled, Finds, Leaves}
 use Rattle.completeness.specs.Sessions.{FindsNoMemory, IsComplete, SessionsComplete}
 use Rattle.completeness.specs.Setups.{IsDone, IsBare, StaysOrMakes, CreateCompletes}
-use Rattle.config_file.specs.Settings.{Settings}
+use Rattle.cryfs_shell.specs.config_file.Settings.{Settings}
 use Rattle.cryfs_shell.specs.cryfs_setup.Create.{RanCreate}
 use Rattle.cryfs_shell.specs.Clauses.{NoFalseAlarm}
 use Rattle.fs_model.specs.Instant.{Instant}
 use Rattle.fs_model.specs.Tree.{Tree, empty_tree}
-use Rattle.histories.specs.Histories.{HonestRunOpensOnly, quiet}
-use Rattle.line_io.specs.Lines.{first_line}
-use Rattle.line_io.specs.Reading.{total}
-use Rattle.line_io.specs.Streams.{Stream, TookMost}
-use Rattle.local_state.specs.Record.{PlainState}
-use Rattle.memory_outside.specs.Keepers.{KeeperState}
-use Rattle.memory_outside.specs.Vaults.{VaultState}
+use Rattle.completeness.specs.histories.Histories.{HonestRunOpensOnly, quiet}
+use Rattle.cryfs_shell.specs.line_io.Lines.{first_line}
+use Rattle.cryfs_shell.specs.line_io.Reading.{total}
+use Rattle.cryfs_shell.specs.line_io.Streams.{Stream, TookMost}
+use Rattle.completeness.specs.local_state.Record.{PlainState}
+use Rattle.honest_outside.specs.memory_outside.Keepers.{KeeperState}
+use Rattle.honest_outside.specs.memory_outside.Vaults.{VaultState}
 use Rattle.cryfs_shell.specs.mount.Making.{KnowsOnly}
 use Rattle.cryfs_shell.specs.mount.Representing.{Represents}
 use Rattle.cryfs_shell.specs.mount_tower.Making.{new_settings}
@@ -30,16 +30,16 @@ use Rattle.outside.specs.Changes.{FileChanges}
 use Rattle.outside.specs.Streams.{appends}
 use Rattle.outside.specs.Trace.{Call}
 use Rattle.outside.specs.declared.keeper.Keeper.{Ghosts as KeeperGhosts}
-use Rattle.passwords.specs.Passwords.{IsLongLine, IsNextPassword}
+use Rattle.cryfs_shell.specs.passwords.Passwords.{IsLongLine, IsNextPassword}
 use Rattle.run_status.specs.declared.ended.Ended.{Ended}
 use Rattle.run_status.specs.declared.status.Status.{Status}
 use Rattle.run_status.specs.declared.status.Status.TheVariants.{Done, Memory, OutputFault, Violation}
-use Rattle.session_lines.specs.Asking.{said_in}
-use Rattle.session_lines.specs.Driven.{IsUnfailed}
+use Rattle.cryfs_shell.specs.session_lines.Asking.{said_in}
+use Rattle.cryfs_shell.specs.session_lines.Driven.{IsUnfailed}
 use Rattle.cryfs_shell.specs.session_runs.Runs.{Outside, outside_of, lies}
 use Rattle.cryfs_shell.specs.setup_texts.CreateText.{created_text}
 use Rattle.cryfs_shell.specs.shell_sessions.Sessions.{Session, ComesShell}
-use Rattle.shell_words.specs.declared.create_options.CreateOptions.{CreateOptions}
+use Rattle.cryfs_shell.specs.shell_words.declared.create_options.CreateOptions.{CreateOptions}
 use Rattle.cryfs_shell.specs.mount_core.Showing.{ShowsFiles}
 use Rattle.honest_outside.specs.Honest.{IsHonestVault, IsHonestKeeper}
 use Rattle.honest_runs.specs.Made.{password, outside_in, IsWantOfMemory}

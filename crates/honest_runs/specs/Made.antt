@@ -2,10 +2,10 @@
 use Rattle.std.specs.Prelude.{◌≡◌, ◌⊎◌, List, ℕ, codes}
 use Rattle.std.specs.declared.option.Option.TheVariants.{Some}
 use Rattle.completeness.specs.Premises.{Leaves}
-use Rattle.config_file.specs.Settings.{Settings}
+use Rattle.cryfs_shell.specs.config_file.Settings.{Settings}
 use Rattle.fs_model.specs.Tree.{empty_tree}
-use Rattle.memory_outside.specs.Keepers.{KeeperState}
-use Rattle.memory_outside.specs.Vaults.{VaultState}
+use Rattle.honest_outside.specs.memory_outside.Keepers.{KeeperState}
+use Rattle.honest_outside.specs.memory_outside.Vaults.{VaultState}
 use Rattle.cryfs_shell.specs.mount.Making.{KnowsOnly}
 use Rattle.run_status.specs.declared.status.Status.{Status}
 use Rattle.run_status.specs.declared.status.Status.TheVariants.{Memory, OutputFault}

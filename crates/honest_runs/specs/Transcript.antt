@@ -1,13 +1,13 @@
 -- What a session over an empty tree writes.
 use Rattle.std.specs.Prelude.{◌≡◌, ℕ, List, [], ◌∷◌, map}
-use Rattle.answers.specs.Sessions.{Exchange, IsSession}
-use Rattle.answers.specs.declared.answer.Answer.{Answer}
-use Rattle.answers.specs.declared.answer.Answer.TheVariants.{Reply as Replied, Memory}
+use Rattle.cryfs_shell.specs.answers.Sessions.{Exchange, IsSession}
+use Rattle.cryfs_shell.specs.answers.declared.answer.Answer.{Answer}
+use Rattle.cryfs_shell.specs.answers.declared.answer.Answer.TheVariants.{Reply as Replied, Memory}
 use Rattle.fs_model.specs.Instant.{Instant}
 use Rattle.fs_model.specs.Tree.{Tree, empty_tree}
-use Rattle.line_io.specs.Lines.{lines}
-use Rattle.script_text.specs.Grammar.{command_of}
-use Rattle.session_lines.specs.Asking.{asked_in, said_in}
+use Rattle.cryfs_shell.specs.line_io.Lines.{lines}
+use Rattle.completeness.specs.script_text.Grammar.{command_of}
+use Rattle.cryfs_shell.specs.session_lines.Asking.{asked_in, said_in}
 
 -- a reply, or memory was refused
 abbrev pub IsReplyOrMemory : Answer → Type 0

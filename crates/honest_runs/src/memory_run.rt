@@ -5,10 +5,10 @@ ghost use Rattle.honest_outside.specs.Honest.{IsHonestSource};
 ghost use Rattle.honest_runs.specs.Made.{password, HoldsEmptyTree, IsWantOfMemory};
 ghost use Rattle.honest_runs.specs.Transcript.{IsTranscript};
 
+use completeness::histories::honest_runs_are_unforged;
 use completeness::{sessions_complete, setups_complete};
 use cryfs_shell::{Ended, Request, Status, Storage, run};
 use fs_model::Moment;
-use histories::honest_runs_are_unforged;
 use honest_outside::{HonestKeeper, HonestSink, HonestSource, HonestVault};
 use memory_folder::MemoryFolder;
 use rand_core::Rng;

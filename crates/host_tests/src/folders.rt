@@ -1,6 +1,6 @@
 // Fresh folders, what is done in them past a copy, and calls that fail.
+use folder_samples::host_folder::Folder;
 use folder_samples::path;
-use host_folder::Folder;
 use real_host::RealHost;
 use std::alloc::Global;
 use std::io::{self, ErrorKind};

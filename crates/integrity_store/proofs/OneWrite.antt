@@ -24,15 +24,15 @@ use Rattle.outside.specs.Writes.{call_for}
 use Rattle.block_id.specs.declared.format.Format.{Format}
 use Rattle.block_id.specs.declared.format.Format.TheVariants.{Alone, WithId}
 use Rattle.block_id.specs.Formats.{magic, prefix_of}
-use Rattle.sealed_store.specs.BlockFiles.{opened_as, opens_file}
-use Rattle.store_api.specs.Durables.{IsConfigured}
-use Rattle.block_records.specs.BlockRecords.{Record, opened, payload_in}
-use Rattle.block_records.specs.RecordLaws.{if_true, opened-alike, opened-plain}
-use Rattle.held_blocks.specs.Held.{Held, live_version, waiting, waiting_or, bytes_in, file_of, where_live, wanted, own}
-use Rattle.held_blocks.specs.Forgeries.{was_put}
-use Rattle.held_blocks.specs.Soundness.{IsForeign, IsFresh, IsPast, IsSealed, SoundAt}
-use Rattle.held_blocks.proofs.Fetches.{wanted_of}
-use Rattle.held_blocks.specs.Stores.{IsWhole, IsNoBlock}
+use Rattle.batch_sealing.specs.sealed_store.BlockFiles.{opened_as, opens_file}
+use Rattle.batch_sealing.specs.store_api.Durables.{IsConfigured}
+use Rattle.batch_sealing.specs.block_records.BlockRecords.{Record, opened, payload_in}
+use Rattle.batch_sealing.specs.block_records.RecordLaws.{if_true, opened-alike, opened-plain}
+use Rattle.batch_sealing.specs.held_blocks.Held.{Held, live_version, waiting, waiting_or, bytes_in, file_of, where_live, wanted, own}
+use Rattle.batch_sealing.specs.held_blocks.Forgeries.{was_put}
+use Rattle.batch_sealing.specs.held_blocks.Soundness.{IsForeign, IsFresh, IsPast, IsSealed, SoundAt}
+use Rattle.batch_sealing.proofs.held_blocks_lemmas.Fetches.{wanted_of}
+use Rattle.batch_sealing.specs.held_blocks.Stores.{IsWhole, IsNoBlock}
 use Rattle.batch_sealing.proofs.Sorted.{of_found}
 
 true_is_false : true ≡ false → ⊥

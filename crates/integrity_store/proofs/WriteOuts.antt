@@ -18,17 +18,17 @@ use Rattle.outside.specs.Honest.{is_lie, count_told}
 use Rattle.local_state.specs.Record.{ListEntry, Rise, record_bytes, HasRecord, IsRecord}
 use Rattle.local_state.proofs.Records.{written_record}
 use Rattle.outside.specs.Writes.{call_for, after_writes, StopsAt}
-use Rattle.store_api.specs.Content.{SameContent}
-use Rattle.store_api.specs.Durables.{IsConfigured}
-use Rattle.store_api.proofs.Rising.{not_below}
+use Rattle.batch_sealing.specs.store_api.Content.{SameContent}
+use Rattle.batch_sealing.specs.store_api.Durables.{IsConfigured}
+use Rattle.batch_sealing.proofs.store_api_lemmas.Rising.{not_below}
 use Rattle.integrity_store.specs.EnduringLaws.{configures_of, configured_of}
-use Rattle.held_blocks.specs.Held.{Held, wanted}
-use Rattle.held_blocks.specs.Forgeries.{forged}
-use Rattle.held_blocks.specs.Soundness.{SoundBy}
-use Rattle.held_blocks.specs.Standing.{identity_of, Stands, Configures}
-use Rattle.held_blocks.specs.Stores.{IsWhole, IsNoBlock}
-use Rattle.held_blocks.proofs.Untouched.{same_self}
-use Rattle.held_blocks.specs.StoreLaws.{sound_is_told}
+use Rattle.batch_sealing.specs.held_blocks.Held.{Held, wanted}
+use Rattle.batch_sealing.specs.held_blocks.Forgeries.{forged}
+use Rattle.batch_sealing.specs.held_blocks.Soundness.{SoundBy}
+use Rattle.batch_sealing.specs.held_blocks.Standing.{identity_of, Stands, Configures}
+use Rattle.batch_sealing.specs.held_blocks.Stores.{IsWhole, IsNoBlock}
+use Rattle.batch_sealing.proofs.held_blocks_lemmas.Untouched.{same_self}
+use Rattle.batch_sealing.specs.held_blocks.StoreLaws.{sound_is_told}
 use Rattle.integrity_store.specs.WaitingLaws.{in_order}
 use Rattle.batch_sealing.proofs.Sorted.{found_first, first_below, found_later, each_found}
 use Rattle.batch_sealing.proofs.Waiting.{test_of}

@@ -7,3 +7,7 @@ mod durable;
 mod store;
 
 pub use store::IntegrityStore;
+
+// Handed on to crates above, which needn't list them.
+pub use batch_sealing::{block_records, redo_vault, sealed_store};
+pub use local_state;

@@ -6,12 +6,12 @@ use Rattle.std.specs.declared.option.Option.{Option}
 use Rattle.std.specs.declared.option.Option.TheVariants.{None, Some}
 use Rattle.std.proofs.lemmas.List.{append_cancel_left}
 use Rattle.std.proofs.lemmas.Option.{same_Some}
-use Rattle.blob_api.specs.BlobMap.{Id, BlobMap}
-use Rattle.dir_entries.specs.Layout.{EntryTarget, IsBody}
-use Rattle.dir_entries.proofs.Bodies.{one_listing}
-use Rattle.forest.specs.Nodes.{Look, Lists, IsBodyOf}
-use Rattle.forest.specs.Shows.{above, target_for, entries_at, ShowsBy, ShowsTree}
-use Rattle.fs_blobs.specs.Headers.{blob, header_text}
+use Rattle.mount.specs.blob_api.BlobMap.{Id, BlobMap}
+use Rattle.mount.specs.dir_entries.Layout.{EntryTarget, IsBody}
+use Rattle.mount.proofs.dir_entries_lemmas.Bodies.{one_listing}
+use Rattle.mount.specs.forest.Nodes.{Look, Lists, IsBodyOf}
+use Rattle.mount.specs.forest.Shows.{above, target_for, entries_at, ShowsBy, ShowsTree}
+use Rattle.mount.specs.fs_blobs.Headers.{blob, header_text}
 use Rattle.fs_model.specs.declared.attr.Attr.{Attr}
 use Rattle.fs_model.specs.declared.attr.Kind.{Kind}
 use Rattle.fs_model.specs.declared.attr.Kind.TheVariants.{Directory, File, Link}

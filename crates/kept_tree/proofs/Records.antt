@@ -2,21 +2,21 @@
 use Rattle.std.proofs.Common.{◌≡◌, ◌∙◌, ℕ, List, sym, ap, subst}
 use Rattle.std.specs.declared.option.Option.{Option}
 use Rattle.std.proofs.lemmas.Option.{same_Some}
-use Rattle.blob_api.specs.BlobMap.{BlobMap}
-use Rattle.blob_store.specs.OneMap.{one_map}
-use Rattle.config_file.specs.Settings.{Settings}
-use Rattle.forest.specs.Shows.{ShowsTree}
+use Rattle.mount.specs.blob_api.BlobMap.{BlobMap}
+use Rattle.mount.specs.blob_store.OneMap.{one_map}
+use Rattle.mount.specs.config_file.Settings.{Settings}
+use Rattle.mount.specs.forest.Shows.{ShowsTree}
 use Rattle.fs_model.specs.Tree.{Tree}
-use Rattle.held_blocks.specs.Held.{Held, wanted}
-use Rattle.held_blocks.specs.Standing.{Stands}
-use Rattle.local_state.proofs.Records.{one_reading}
-use Rattle.local_state.specs.Record.{IsRecord}
+use Rattle.mount.specs.held_blocks.Held.{Held, wanted}
+use Rattle.mount.specs.held_blocks.Standing.{Stands}
+use Rattle.mount.proofs.local_state_lemmas.Records.{one_reading}
+use Rattle.mount.specs.local_state.Record.{IsRecord}
 use Rattle.mount.specs.Representing.{Represents}
-use Rattle.mount_tower.specs.Identities.{Holder, identity_for}
+use Rattle.mount.specs.mount_tower.Identities.{Holder, identity_for}
 use Rattle.outside.specs.Trace.{Call}
-use Rattle.store_api.specs.Content.{Content}
-use Rattle.store_api.specs.Durables.{Identity}
-use Rattle.tree_commands.specs.Showing.{ShowsFiles}
+use Rattle.mount.specs.store_api.Content.{Content}
+use Rattle.mount.specs.store_api.Durables.{Identity}
+use Rattle.mount.specs.tree_commands.Showing.{ShowsFiles}
 use Rattle.kept_tree.proofs.Paths.{shown}
 
 -- what is held is the record's state and list, and what the identity says

@@ -1,13 +1,13 @@
 -- Trees that are shown or kept are one.
 use Rattle.std.specs.Prelude.{◌≡◌, List, ℕ}
 use Rattle.std.specs.declared.option.Option.{Option}
-use Rattle.blob_api.specs.BlobMap.{Id, BlobMap}
-use Rattle.config_file.specs.Settings.{Settings}
-use Rattle.forest.specs.Shows.{ShowsTree}
+use Rattle.mount.specs.blob_api.BlobMap.{Id, BlobMap}
+use Rattle.mount.specs.config_file.Settings.{Settings}
+use Rattle.mount.specs.forest.Shows.{ShowsTree}
 use Rattle.fs_model.specs.Tree.{Tree}
 use Rattle.mount.specs.Representing.{Represents}
 use Rattle.outside.specs.Trace.{Call}
-use Rattle.tree_commands.specs.Showing.{ShowsFiles}
+use Rattle.mount.specs.tree_commands.Showing.{ShowsFiles}
 
 -- two trees that the same blobs show from the same root on are the same
 abbrev pub OneShown : Type 0

@@ -1,7 +1,7 @@
 // Names and paths of texts.
 
+use answers::script_text::{PathError, parse_path};
 use fs_model::{Name, Path};
-use script_text::{PathError, parse_path};
 use std::alloc::{AllocError, Global};
 use std::test::Fail;
 

@@ -1,6 +1,6 @@
 // Lines that are refused, lines that are read, and the texts of replies.
+use answers::script_text::{LineError, parse_line, print_reply};
 use fs_model::{Attr, ByteText, Command, FsError, Kind, ListRow, Moment, Name, Reply, RowList};
-use script_text::{LineError, parse_line, print_reply};
 use std::alloc::Global;
 use std::test::Fail;
 

@@ -3,7 +3,7 @@ use Rattle.std.proofs.Common.{refl}
 use Rattle.std.specs.declared.result.Result.TheVariants.{Ok, Err}
 use Rattle.block_id.specs.declared.fail.Fail.TheVariants.{Violation}
 use Rattle.block_id.specs.declared.fail.Why.TheVariants.{Structure}
-use Rattle.outcome.specs.Outcome.{Outcome}
+use Rattle.blob_api.specs.outcome.Outcome.{Outcome}
 use Rattle.map_blobs.specs.Rows.{meanings_of}
 
 pub went_well : {S T N : Type 0} {P : N → T → Type 0} (a b : S) (x : T) → ((n : N) → P n x) → Outcome (meanings_of {S = S}) N a b (Ok x) P

@@ -6,8 +6,8 @@ use Rattle.std.specs.FinMap.{same_map, slice_cmp-IsAntisymmetric, nat_cmp-IsAnti
 use Rattle.std.specs.Cmp.Lexicographic.{nat_list_cmp_total}
 use Rattle.std.specs.declared.option.Option.{Option}
 use Rattle.std.specs.declared.option.Option.TheVariants.{None, Some}
-use Rattle.outcome.specs.Meanings.{Meanings, Lawful}
-use Rattle.outcome.specs.InMemory.{in_memory, in_memory_lawful}
+use Rattle.blob_api.specs.outcome.Meanings.{Meanings, Lawful}
+use Rattle.blob_api.specs.outcome.InMemory.{in_memory, in_memory_lawful}
 use Rattle.store_api.specs.Content.{Changes}
 use Rattle.blob_api.specs.BlobMap.{Id, BlobMap, BlobHoldings, BlobsSteady}
 

@@ -8,8 +8,8 @@ use Rattle.block_id.specs.declared.id.BlockId.{BlockId}
 use Rattle.block_batch.specs.declared.batch.BatchChange.{BatchChange}
 use Rattle.block_batch.specs.Entries.{change_view}
 use Rattle.block_id.specs.declared.sizes.TheConstants.{MIN_PAYLOAD, MAX_BLOCK}
-use Rattle.outcome.specs.Meanings.{Meanings, Lawful}
-use Rattle.outcome.specs.InMemory.{in_memory, in_memory_lawful}
+use Rattle.store_api.specs.outcome.Meanings.{Meanings, Lawful}
+use Rattle.store_api.specs.outcome.InMemory.{in_memory, in_memory_lawful}
 use Rattle.store_api.specs.Content.{Id, Content, Changes, id_cmp, or_else}
 use Rattle.store_api.specs.Loads.{LoadAnswer, GivesPayload}
 use Rattle.store_api.specs.Holdings.{Holdings, Steady, Stays, has_id}

@@ -5,3 +5,6 @@ mod rows;
 mod store;
 
 pub use store::MapStore;
+
+// Handed on to crates above, which needn't list them.
+pub use store_api;

@@ -11,7 +11,7 @@ use Rattle.fs_model.specs.Names.{IsName}
 use Rattle.fs_model.specs.Step.{by_kind}
 use Rattle.fs_model.specs.Tree.{path_cmp, empty_tree, is_root, root_row, upward}
 use Rattle.fs_model.proofs.TreeLemmas.{path_total, path_exact, path_split}
-use Rattle.tree_rules.proofs.PathLemmas.{not_root}
+use Rattle.row_table.proofs.tree_rules_lemmas.PathLemmas.{not_root}
 use Rattle.host_folder.specs.Folders.{HostRow, HostPath, HostTree, IsHostTree, HasTarget, directory_row}
 use Rattle.host_folder.proofs.Inserts.{here, other}
 use Rattle.memory_folder.specs.States.{is_file, is_folder, make_fails}

@@ -5,3 +5,6 @@ mod memory_folder;
 mod table_rows;
 
 pub use memory_folder::MemoryFolder;
+
+// Handed on to crates above, which needn't list them.
+pub use host_folder;

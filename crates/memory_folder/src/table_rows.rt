@@ -12,8 +12,8 @@ ghost use Rattle.memory_folder.specs.Told.{told_by};
 use block_id::Memory;
 use fs_model::{Attr, Kind, Name, RowList};
 use row_table::Table;
+use row_table::tree_rules::root_attr;
 use std::alloc::Global;
-use tree_rules::root_attr;
 
 /// The root alone.
 pub fn root_table(alloc: Global) -> Table

@@ -4,3 +4,5 @@ pub mod Keepers
 pub mod MemoryStreams
 pub mod Vaults
 pub mod View
+-- Handed on to crates above, which name their words so and needn't list them.
+pub use Rattle.listing.specs as listing

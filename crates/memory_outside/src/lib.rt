@@ -13,3 +13,7 @@ pub use memory_keeper::MemoryKeeper;
 pub use memory_sink::MemorySink;
 pub use memory_source::MemorySource;
 pub use memory_vault::MemoryVault;
+
+// Handed on to crates above, which needn't list them.
+pub use listing;
+pub use pending_list;

@@ -1,12 +1,12 @@
 -- The least format from one record that is kept to another.
 use Rattle.std.proofs.Common.{◌≡◌, ◌∙◌, ℕ, List, [], false, sym, ap, subst, inl, inr}
 use Rattle.std.specs.declared.option.Option.{Option}
-use Rattle.config_file.specs.declared.config.Opened.{Opened}
+use Rattle.mount_tower.specs.config_file.declared.config.Opened.{Opened}
 use Rattle.outside.specs.Changes.{FileChanges}
 use Rattle.outside.specs.Trace.{Call}
 use Rattle.outside.specs.declared.keeper.Keeper.{Ghosts as KeeperGhosts}
 use Rattle.local_state.specs.Record.{PlainState}
-use Rattle.held_blocks.specs.Standing.{listed, records}
+use Rattle.mount_tower.specs.held_blocks.Standing.{listed, records}
 use Rattle.mount_core.specs.Formats.{KeepsLeast, StaysLeast}
 use Rattle.mount_tower.proofs.Reading.{same_kept}
 use Rattle.mount_tower.specs.Identities.{KeepsRecord}

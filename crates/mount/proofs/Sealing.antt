@@ -21,16 +21,16 @@ use Rattle.store_api.specs.Holdings.{has_id}
 use Rattle.store_api.specs.Ids.{ComeOfSeed}
 use Rattle.store_api.proofs.Draws.{later_same}
 use Rattle.store_api.proofs.Rising.{ids_total}
-use Rattle.session_saver.specs.Saving.{Wrote}
+use Rattle.mount_tower.specs.session_saver.Saving.{Wrote}
 use Rattle.local_state.specs.Record.{PlainState}
 use Rattle.local_state.specs.declared.life.Life.{Life}
-use Rattle.held_blocks.specs.Held.{Held, waiting}
-use Rattle.held_blocks.specs.Reads.{AllReads, WentOnByReads}
-use Rattle.held_blocks.specs.Stores.{OnlyRead}
-use Rattle.held_blocks.specs.StoreLaws.{has-keys}
-use Rattle.batch_sealing.specs.Applied.{Applied, WaitsAfter, life_after}
-use Rattle.batch_sealing.specs.Draws.{AreDrawn, draws, given_in, given_ids, iv_in, iv_of}
-use Rattle.batch_sealing.proofs.Sorted.{all_by, each_found, of_found}
+use Rattle.mount_tower.specs.held_blocks.Held.{Held, waiting}
+use Rattle.mount_tower.specs.held_blocks.Reads.{AllReads, WentOnByReads}
+use Rattle.mount_tower.specs.held_blocks.Stores.{OnlyRead}
+use Rattle.mount_tower.specs.held_blocks.StoreLaws.{has-keys}
+use Rattle.mount_tower.specs.batch_sealing.Applied.{Applied, WaitsAfter, life_after}
+use Rattle.mount_tower.specs.batch_sealing.Draws.{AreDrawn, draws, given_in, given_ids, iv_in, iv_of}
+use Rattle.mount_tower.proofs.batch_sealing_lemmas.Sorted.{all_by, each_found, of_found}
 use Rattle.mount_core.specs.Drawing.{DrawsOnce, DrawsSeeded, LineDraws, NamesKnown}
 use Rattle.mount_tower.specs.Opening.{IsLoaded, ReadsConfigOnce}
 use Rattle.mount_tower.specs.declared.opening.TheConstants.{MAX_CONFIG}

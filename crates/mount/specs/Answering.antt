@@ -5,8 +5,8 @@ use Rattle.fs_model.specs.Instant.{Instant}
 use Rattle.fs_model.specs.Tree.{Tree}
 use Rattle.outside.specs.Trace.{Call}
 use Rattle.outside.specs.declared.keeper.Keeper.{Ghosts as KeeperGhosts}
-use Rattle.answers.specs.declared.answer.Answer.{Answer}
-use Rattle.answers.specs.Sessions.{Asked}
+use Rattle.mount_core.specs.answers.declared.answer.Answer.{Answer}
+use Rattle.mount_core.specs.answers.Sessions.{Asked}
 use Rattle.mount_core.specs.Showing.{Showing}
 use Rattle.mount_core.specs.Answering.{LineAnswers, LineAnswered as CoreAnswered}
 use Rattle.mount.specs.declared.mount.Mount.{Mount}

@@ -1,15 +1,15 @@
 -- What the mount that was opened is, stands for and called.
 use Rattle.std.specs.Prelude.{◌≡◌, ◌≤◌, ℕ, true, false, List, [], ◌∷◌, is_some}
 use Rattle.std.specs.declared.option.Option.{Option}
-use Rattle.aes_gcm.specs.Gcm.{opened_of}
-use Rattle.config_file.specs.Settings.{Settings, settings_of}
+use Rattle.mount_tower.specs.aes_gcm.Gcm.{opened_of}
+use Rattle.mount_tower.specs.config_file.Settings.{Settings, settings_of}
 use Rattle.fs_model.specs.Tree.{Tree}
-use Rattle.held_blocks.specs.Forgeries.{forged}
-use Rattle.held_blocks.specs.Standing.{records}
+use Rattle.mount_tower.specs.held_blocks.Forgeries.{forged}
+use Rattle.mount_tower.specs.held_blocks.Standing.{records}
 use Rattle.outside.specs.Honest.{is_lie, count_told}
 use Rattle.outside.specs.Trace.{Call}
 use Rattle.outside.specs.declared.keeper.Keeper.{Ghosts as KeeperGhosts}
-use Rattle.session_saver.specs.Saving.{KeptConfigures}
+use Rattle.mount_tower.specs.session_saver.Saving.{KeptConfigures}
 use Rattle.mount_core.specs.Showing.{Showing}
 use Rattle.mount_tower.specs.Unforged.{IsUnforgedConfig}
 use Rattle.mount.specs.declared.mount.Mount.{Mount}

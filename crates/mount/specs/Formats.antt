@@ -3,7 +3,7 @@ use Rattle.std.specs.Prelude.{◌≡◌, ◌⊎◌, ℕ, List}
 use Rattle.std.specs.declared.option.Option.{Option}
 use Rattle.outside.specs.Changes.{FileChanges}
 use Rattle.local_state.specs.Record.{PlainState}
-use Rattle.held_blocks.specs.Standing.{records}
+use Rattle.mount_tower.specs.held_blocks.Standing.{records}
 use Rattle.mount_core.specs.Standing.{IsKeptMarked}
 use Rattle.mount_tower.specs.Identities.{KeepsRecord}
 

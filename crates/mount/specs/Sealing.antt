@@ -7,7 +7,7 @@ use Rattle.std.specs.declared.option.Option.TheVariants.{None, Some}
 use Rattle.outside.specs.Changes.{FileChanges, change_at}
 use Rattle.outside.specs.Trace.{Call, block, config, put, got, removed}
 use Rattle.rand_core.specs.Stream.{Stream, fill_bytes}
-use Rattle.batch_sealing.specs.Draws.{iv_in}
+use Rattle.mount_tower.specs.batch_sealing.Draws.{iv_in}
 use Rattle.store_api.specs.Content.{Id}
 use Rattle.store_api.specs.Draws.{IsLater}
 use Rattle.store_api.specs.Holdings.{has_id}

@@ -1,20 +1,20 @@
 -- What the calls beside an answer leave of a mount.
 use Rattle.std.specs.Prelude.{◌≡◌, ◌⊎◌, ◌≤◌, ℕ, true, false, List, [], Result, is_some, IsOk, IsErrOf, OnOk}
 use Rattle.std.specs.declared.option.Option.{Option}
-use Rattle.aes_gcm.specs.Gcm.{opened_of}
-use Rattle.config_file.specs.ConfigOf.{IsOnly, opened as opened_as}
-use Rattle.config_file.specs.Settings.{settings_of}
+use Rattle.mount_tower.specs.aes_gcm.Gcm.{opened_of}
+use Rattle.mount_tower.specs.config_file.ConfigOf.{IsOnly, opened as opened_as}
+use Rattle.mount_tower.specs.config_file.Settings.{settings_of}
 use Rattle.fs_model.specs.Tree.{Tree}
-use Rattle.held_blocks.specs.Forgeries.{forged}
-use Rattle.held_blocks.specs.Standing.{records}
+use Rattle.mount_tower.specs.held_blocks.Forgeries.{forged}
+use Rattle.mount_tower.specs.held_blocks.Standing.{records}
 use Rattle.outside.specs.Causes.{RoseBy}
 use Rattle.outside.specs.Going.{GoesOn}
 use Rattle.outside.specs.Honest.{is_lie, count_told}
 use Rattle.outside.specs.Trace.{Call}
 use Rattle.outside.specs.declared.keeper.Keeper.{Ghosts as KeeperGhosts}
-use Rattle.session_saver.specs.Saving.{KeptConfigures, Leaves, UnlessDirectory, UnlessState}
-use Rattle.session_saver.specs.declared.saver.SyncError.{SyncError}
-use Rattle.session_saver.specs.declared.saver.SyncError.TheVariants.{Memory, FaultDirectory, FaultState}
+use Rattle.mount_tower.specs.session_saver.Saving.{KeptConfigures, Leaves, UnlessDirectory, UnlessState}
+use Rattle.mount_tower.specs.session_saver.declared.saver.SyncError.{SyncError}
+use Rattle.mount_tower.specs.session_saver.declared.saver.SyncError.TheVariants.{Memory, FaultDirectory, FaultState}
 use Rattle.mount_core.specs.Configuring.{ConfigClosed, ConfigSynced, Replaced}
 use Rattle.mount_core.specs.Keeping.{IsSameOrRecord, ReplaceKeeps, SyncKeeps}
 use Rattle.mount_core.specs.Formats.{StaysLeast}

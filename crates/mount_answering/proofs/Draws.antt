@@ -1,12 +1,12 @@
 -- What a line draws, from what its steps do.
 use Rattle.std.proofs.Common.{◌≡◌, ◌⊎◌, ℕ, List, ap, subst, inl, inr}
-use Rattle.outcome.specs.Meanings.{Meanings, Lawful}
+use Rattle.mount_core.specs.outcome.Meanings.{Meanings, Lawful}
 use Rattle.rand_core.specs.Stream.{Stream, fill_bytes}
-use Rattle.session_saver.specs.Saving.{Wrote}
-use Rattle.store_api.specs.Content.{Changes}
-use Rattle.store_api.specs.Durables.{Durables}
-use Rattle.store_api.specs.Holdings.{Holdings}
-use Rattle.store_api.proofs.Draws.{later_same, later_chained, later_filled}
+use Rattle.mount_core.specs.session_saver.Saving.{Wrote}
+use Rattle.mount_core.specs.store_api.Content.{Changes}
+use Rattle.mount_core.specs.store_api.Durables.{Durables}
+use Rattle.mount_core.specs.store_api.Holdings.{Holdings}
+use Rattle.mount_core.proofs.store_api_lemmas.Draws.{later_same, later_chained, later_filled}
 use Rattle.mount_core.specs.Drawing.{DrawsBatch, DrawsOnce, DrawsSeeded, LineDraws, NamesOfSeed}
 
 module _ {S : Type 0} (M : Meanings S) (H : Holdings S) (D : Durables S) (lawful : Lawful M) (applied : S → S → Changes → Type 0) (drawn : S → S → Changes → Stream → Stream → Type 0) where

@@ -2,20 +2,20 @@
 use Rattle.std.proofs.Common.{◌≡◌, ◌⊎◌, ◌<◌, ◌∙◌, Bool, false, sym, arith}
 use Rattle.std.specs.Prelude.{Result, Ok}
 use Rattle.fs_model.specs.declared.command.Command.{Command}
-use Rattle.outcome.specs.Meanings.{Meanings}
+use Rattle.mount_core.specs.outcome.Meanings.{Meanings}
 use Rattle.outside.specs.Causes.{RoseBy}
 use Rattle.outside.specs.Going.{goes_on_onward}
 use Rattle.outside.specs.declared.keeper.Keeper.{Ghosts as KeeperGhosts}
 use Rattle.block_id.specs.declared.fail.Fail.TheVariants.{Violation as FailViolation}
-use Rattle.answers.specs.declared.answer.Answer.{Answer}
-use Rattle.answers.specs.declared.answer.Answer.TheVariants.{Reply as Replied, Memory, Spent, FaultDirectory, FaultState, Violation, Refused}
-use Rattle.answers.specs.Sessions.{directory_faults}
-use Rattle.store_api.specs.Durables.{Durables, Records}
-use Rattle.store_api.specs.Holdings.{Holdings}
-use Rattle.store_api.specs.Lists.{waiting_weight}
-use Rattle.session_saver.specs.Saving.{world, Wrote, Leaves}
-use Rattle.session_saver.specs.declared.saver.SyncError.{SyncError}
-use Rattle.tree_commands.specs.Performing.{is_sync}
+use Rattle.mount_core.specs.answers.declared.answer.Answer.{Answer}
+use Rattle.mount_core.specs.answers.declared.answer.Answer.TheVariants.{Reply as Replied, Memory, Spent, FaultDirectory, FaultState, Violation, Refused}
+use Rattle.mount_core.specs.answers.Sessions.{directory_faults}
+use Rattle.mount_core.specs.store_api.Durables.{Durables, Records}
+use Rattle.mount_core.specs.store_api.Holdings.{Holdings}
+use Rattle.mount_core.specs.store_api.Lists.{waiting_weight}
+use Rattle.mount_core.specs.session_saver.Saving.{world, Wrote, Leaves}
+use Rattle.mount_core.specs.session_saver.declared.saver.SyncError.{SyncError}
+use Rattle.mount_core.specs.tree_commands.Performing.{is_sync}
 use Rattle.mount_core.specs.Answering.{StoreAnswers}
 use Rattle.mount_core.specs.Answers.{is_done_answer, OnFound, OnSpent}
 use Rattle.block_id.specs.declared.fail.Why.{Why}

@@ -2,11 +2,11 @@
 ghost use Rattle.std.specs.Prelude.{◌≡◌, ◌⊎◌, ◌≤◌, true, false};
 ghost use Rattle.std.specs.declared.option.Option.TheVariants.{Some};
 ghost use Rattle.outside.specs.Causes.{RoseBy};
-ghost use Rattle.session_saver.specs.Saving.{world};
-ghost use Rattle.store_api.specs.Durables.{with_mark};
-ghost use Rattle.store_api.specs.Txs.{intact_in};
-ghost use Rattle.tree_commands.specs.Performing.{is_sync, IsReplyTo};
-ghost use Rattle.tree_commands.specs.Showing.{ShowsFiles};
+ghost use Rattle.mount_core.specs.session_saver.Saving.{world};
+ghost use Rattle.mount_core.specs.store_api.Durables.{with_mark};
+ghost use Rattle.mount_core.specs.store_api.Txs.{intact_in};
+ghost use Rattle.mount_core.specs.tree_commands.Performing.{is_sync, IsReplyTo};
+ghost use Rattle.mount_core.specs.tree_commands.Showing.{ShowsFiles};
 ghost use Rattle.mount_core.specs.Answering.{FormAnswers, TreesAnswer, StoreAnswers};
 ghost use Rattle.mount_core.specs.Drawing.{DrawsOnce, DrawsSeeded, LineDraws, NamesOfSeed};
 ghost use Rattle.mount_core.specs.Standing.{Ready, IsKeptMarked};
@@ -14,14 +14,14 @@ ghost use Rattle.mount_answering.specs.Asking.{CanAsk, CanSettle, FormAsked, Kee
 
 use crate::kinds::{apply_answer, fail_answer, is_error, is_sync, only_looks, sync_answer};
 use crate::syncing::sync_first;
-use answers::Answer;
 use fs_model::{Command, Moment, Reply};
 use mount_core::Core;
+use mount_core::answers::Answer;
+use mount_core::store_api::{Blocks, Durable, Tx};
+use mount_core::tree_commands::perform;
 use outside::Keeper;
 use rand_core::Rng;
 use std::alloc::Global;
-use store_api::{Blocks, Durable, Tx};
-use tree_commands::perform;
 
 /// Marks the last record, and has it kept. Later commands are refused, and closing leaves all as it is.
 pub fn mark<S: Durable, K: Keeper>(core: &mut Core<S, K>)

@@ -1,8 +1,8 @@
 // What keeps what is present, over any durable store and keeper.
 ghost use Rattle.std.specs.Prelude.{◌≡◌, false};
-ghost use Rattle.session_saver.specs.Saving.{world, Leaves};
-ghost use Rattle.store_api.specs.Lists.{MayConfigure};
-ghost use Rattle.tree_commands.specs.Showing.{ShowsFiles};
+ghost use Rattle.mount_core.specs.session_saver.Saving.{world, Leaves};
+ghost use Rattle.mount_core.specs.store_api.Lists.{MayConfigure};
+ghost use Rattle.mount_core.specs.tree_commands.Showing.{ShowsFiles};
 ghost use Rattle.mount_core.specs.Answering.{CoreMoves, CoreSyncs, MakesRoom, CoreReplaces, CoreCloses};
 ghost use Rattle.mount_core.specs.Standing.{Ready};
 
@@ -10,11 +10,11 @@ use crate::kinds::is_sync;
 use block_id::Memory;
 use fs_model::Command;
 use mount_core::Core;
+use mount_core::session_saver::{Saver, SyncError};
+use mount_core::store_api::Durable;
+use mount_core::tree_commands::BlobStore;
 use outside::Keeper;
-use session_saver::{Saver, SyncError};
 use std::alloc::Global;
-use store_api::Durable;
-use tree_commands::BlobStore;
 
 /// Bytes that wait before a line syncs first. A removal counts as 64.
 const MOST_WAITING: usize = 8_388_608;

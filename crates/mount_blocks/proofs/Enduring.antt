@@ -1,15 +1,15 @@
 -- What a tower of stores keeps through loads.
 use Rattle.std.specs.Prelude.{ℕ, List}
 use Rattle.std.specs.declared.option.Option.{Option}
-use Rattle.batch_sealing.specs.Applied.{applied_by}
-use Rattle.block_cache.specs.Through.{enduring_past}
-use Rattle.held_blocks.specs.Standing.{records}
-use Rattle.integrity_store.specs.EnduringLaws.{enduring_by}
-use Rattle.mount_tower.specs.Tower.{Cached, sealed_held, sealed_trace, sealed_meanings, sealed_holdings, sealed_durables, tower_meanings, tower_holdings, tower_durables}
+use Rattle.mount.specs.batch_sealing.Applied.{applied_by}
+use Rattle.mount.specs.block_cache.Through.{enduring_past}
+use Rattle.mount.specs.held_blocks.Standing.{records}
+use Rattle.mount.specs.integrity_store.EnduringLaws.{enduring_by}
+use Rattle.mount.specs.mount_tower.Tower.{Cached, sealed_held, sealed_trace, sealed_meanings, sealed_holdings, sealed_durables, tower_meanings, tower_holdings, tower_durables}
 use Rattle.outside.specs.Trace.{Call}
-use Rattle.sealed_store.specs.Stores.{IsIntact, block_size_of}
-use Rattle.store_api.specs.Content.{Changes}
-use Rattle.store_api.specs.Durables.{Enduring}
+use Rattle.mount.specs.sealed_store.Stores.{IsIntact, block_size_of}
+use Rattle.mount.specs.store_api.Content.{Changes}
+use Rattle.mount.specs.store_api.Durables.{Enduring}
 
 abbrev pub tower_applied : {V : Type 0} → (V → Option (List Call)) → Cached V → Cached V → Changes → Type 0
 tower_applied trace a b changes = applied_by sealed_held (sealed_trace trace) a.store b.store changes

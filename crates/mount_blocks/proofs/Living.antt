@@ -10,13 +10,13 @@ use Rattle.std.specs.Ordering.{is_lt}
 use Rattle.std.specs.Cmp.{Equal-is}
 use Rattle.block_id.proofs.Conditions.{left, right}
 use Rattle.block_id.specs.declared.id.BlockId.{BlockId}
-use Rattle.data_nodes.specs.Layout.{ids_of}
-use Rattle.held_blocks.specs.Held.{where_live}
-use Rattle.local_state.specs.Known.{Lives, live_ids, version_if_live}
-use Rattle.local_state.specs.declared.life.Life.{Life}
-use Rattle.store_api.specs.Content.{Id, id_cmp, same_id}
-use Rattle.store_api.specs.Holdings.{has_id}
-use Rattle.store_api.proofs.Rising.{ids_total, not_below}
+use Rattle.mount.specs.data_nodes.Layout.{ids_of}
+use Rattle.mount.specs.held_blocks.Held.{where_live}
+use Rattle.mount.specs.local_state.Known.{Lives, live_ids, version_if_live}
+use Rattle.mount.specs.local_state.declared.life.Life.{Life}
+use Rattle.mount.specs.store_api.Content.{Id, id_cmp, same_id}
+use Rattle.mount.specs.store_api.Holdings.{has_id}
+use Rattle.mount.proofs.store_api_lemmas.Rising.{ids_total, not_below}
 
 abbrev live_of : List (Id × Life) → List (Id × Life)
 live_of es = filter (λ e. e.1.live) es

@@ -2,21 +2,21 @@
 use Rattle.std.proofs.Common.{◌≤◌, ℕ, List, false, length, sym, ◌∙◌, ap, subst}
 use Rattle.std.specs.Prelude.{Result}
 use Rattle.std.specs.declared.option.Option.{Option}
-use Rattle.config_file.specs.Settings.{settings_of}
-use Rattle.config_file.specs.declared.config.Opened.{Opened}
-use Rattle.held_blocks.specs.Standing.{records}
+use Rattle.mount.specs.config_file.Settings.{settings_of}
+use Rattle.mount.specs.config_file.declared.config.Opened.{Opened}
+use Rattle.mount.specs.held_blocks.Standing.{records}
 use Rattle.mount.specs.Answering.{store_of}
 use Rattle.mount.specs.declared.mount.Mount.{Mount}
 use Rattle.mount.specs.Mounts.{IsReady}
-use Rattle.mount_tower.specs.Identities.{identity_for}
-use Rattle.mount_tower.specs.Tower.{tower_meanings, tower_holdings, tower_durables}
+use Rattle.mount.specs.mount_tower.Identities.{identity_for}
+use Rattle.mount.specs.mount_tower.Tower.{tower_meanings, tower_holdings, tower_durables}
 use Rattle.block_id.specs.declared.fail.Fail.{Fail}
-use Rattle.outcome.specs.Outcome.{Outcome}
+use Rattle.mount.specs.outcome.Outcome.{Outcome}
 use Rattle.outside.specs.Trace.{Call}
 use Rattle.outside.specs.declared.keeper.Keeper.{Ghosts as KeeperGhosts}
-use Rattle.session_saver.specs.Saving.{CanMark, Whole}
-use Rattle.session_saver.specs.declared.saver.Saver.{Saver}
-use Rattle.store_api.specs.Holdings.{IsFew, Stays}
+use Rattle.mount.specs.session_saver.Saving.{CanMark, Whole}
+use Rattle.mount.specs.session_saver.declared.saver.Saver.{Saver}
+use Rattle.mount.specs.store_api.Holdings.{IsFew, Stays}
 use Rattle.mount_blocks.specs.declared.examined.Examined.{Examined}
 use Rattle.mount_blocks.specs.Examined.{OnlyExamined, SameBeside, examined_meanings}
 use Rattle.mount_blocks.proofs.Enduring.{tower_enduring}

@@ -1,16 +1,16 @@
 -- What the blocks of an opened file system mean where they are loaded past the cache.
 use Rattle.std.specs.Prelude.{◌≡◌, ℕ, List}
 use Rattle.std.specs.declared.option.Option.{Option}
-use Rattle.block_cache.specs.Through.{holdings_past}
-use Rattle.held_blocks.specs.Held.{Held}
+use Rattle.mount.specs.block_cache.Through.{holdings_past}
+use Rattle.mount.specs.held_blocks.Held.{Held}
 use Rattle.mount.specs.Answering.{store_of, calls_of, forgeries_of, lies_of, vault_faults}
 use Rattle.mount.specs.Mounts.{IsReady}
 use Rattle.mount.specs.declared.mount.Mount.{Mount}
-use Rattle.mount_tower.specs.Tower.{held_in, tower_meanings, tower_holdings}
-use Rattle.outcome.specs.Meanings.{Meanings}
+use Rattle.mount.specs.mount_tower.Tower.{held_in, tower_meanings, tower_holdings}
+use Rattle.mount.specs.outcome.Meanings.{Meanings}
 use Rattle.outside.specs.Trace.{Call}
 use Rattle.outside.specs.declared.keeper.Keeper.{Ghosts as KeeperGhosts}
-use Rattle.store_api.specs.Holdings.{Holdings}
+use Rattle.mount.specs.store_api.Holdings.{Holdings}
 use Rattle.mount_blocks.specs.declared.examined.Examined.{Examined}
 
 -- what its store of blocks holds, and the calls on its directory

@@ -2,17 +2,17 @@
 use Rattle.std.specs.Prelude.{ℕ, List, refl}
 use Rattle.std.proofs.Common.{◌∙◌}
 use Rattle.std.specs.declared.option.Option.{Option}
-use Rattle.block_cache.specs.Through.{steady_past}
-use Rattle.held_blocks.specs.StoreLaws.{steady_by}
+use Rattle.mount.specs.block_cache.Through.{steady_past}
+use Rattle.mount.specs.held_blocks.StoreLaws.{steady_by}
 use Rattle.mount.specs.Answering.{store_of}
 use Rattle.mount.specs.declared.mount.Mount.{Mount}
-use Rattle.mount_tower.specs.Tower.{sealed_held, sealed_trace, sealed_meanings, sealed_holdings, tower_meanings, tower_holdings}
-use Rattle.mount_tower.specs.TowerLaws.{tower_lawful}
-use Rattle.outcome.specs.Meanings.{Lawful}
+use Rattle.mount.specs.mount_tower.Tower.{sealed_held, sealed_trace, sealed_meanings, sealed_holdings, tower_meanings, tower_holdings}
+use Rattle.mount.specs.mount_tower.TowerLaws.{tower_lawful}
+use Rattle.mount.specs.outcome.Meanings.{Lawful}
 use Rattle.outside.specs.Trace.{Call}
 use Rattle.outside.specs.declared.keeper.Keeper.{Ghosts as KeeperGhosts}
-use Rattle.sealed_store.specs.Stores.{IsIntact, block_size_of}
-use Rattle.store_api.specs.Holdings.{Steady}
+use Rattle.mount.specs.sealed_store.Stores.{IsIntact, block_size_of}
+use Rattle.mount.specs.store_api.Holdings.{Steady}
 use Rattle.mount_blocks.specs.Examined.{SameBeside, examined_meanings, examined_holdings}
 
 pub beside_none : {V : Type 0} {K : Type 0} (mount : Mount V K) → SameBeside mount mount

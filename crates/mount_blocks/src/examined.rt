@@ -1,19 +1,19 @@
 // An opened file system, seen as the store of its blocks.
 ghost use Rattle.std.specs.Prelude.{◌≡◌, ℕ, IfOk, T, is_some, map};
 ghost use Rattle.std.specs.FinMap.{is_sorted};
-ghost use Rattle.data_nodes.specs.Layout.{ids_of};
-ghost use Rattle.held_blocks.specs.Loads.{loads_by};
-ghost use Rattle.local_state.specs.Known.{live_ids};
-ghost use Rattle.store_api.specs.Content.{Id, id_cmp};
-ghost use Rattle.store_api.specs.Holdings.{has_id};
+ghost use Rattle.mount.specs.data_nodes.Layout.{ids_of};
+ghost use Rattle.mount.specs.held_blocks.Loads.{loads_by};
+ghost use Rattle.mount.specs.local_state.Known.{live_ids};
+ghost use Rattle.mount.specs.store_api.Content.{Id, id_cmp};
+ghost use Rattle.mount.specs.store_api.Holdings.{has_id};
 ghost use Rattle.mount_blocks.specs.Examined.{held_of, trace_of, examined_meanings, examined_holdings};
 ghost use Rattle.mount_blocks.specs.ExaminedLaws.{examined_lawful, examined_steady};
 
 use block_id::{BlockId, Fail, Memory};
 use mount::Mount;
+use mount::store_api::Blocks;
 use outside::{Keeper, Vault};
 use std::alloc::Global;
-use store_api::Blocks;
 
 /// An opened file system whose blocks are loaded from its directory, whatever is cached.
 pub struct Examined<V, K> {

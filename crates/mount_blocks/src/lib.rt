@@ -5,3 +5,7 @@
 mod examined;
 
 pub use examined::Examined;
+
+// Handed on to crates above, which needn't list them.
+pub use mount;
+pub use mount::{config_file, mount_tower};

@@ -6,39 +6,39 @@ use Rattle.std.specs.FinMap.Entries.{below_all}
 use Rattle.std.specs.Ordering.{is_eq, is_lt}
 use Rattle.std.specs.declared.option.Option.{Option}
 use Rattle.std.specs.declared.result.Result.TheVariants.{Ok, Err}
-use Rattle.answers.specs.declared.answer.Answer.{Answer}
-use Rattle.answers.specs.declared.answer.Answer.TheVariants.{Reply as Replied, Memory}
+use Rattle.mount_opening.specs.answers.declared.answer.Answer.{Answer}
+use Rattle.mount_opening.specs.answers.declared.answer.Answer.TheVariants.{Reply as Replied, Memory}
 use Rattle.block_id.proofs.Conditions.{left, right}
 use Rattle.block_id.proofs.Orders.{less_so}
 use Rattle.block_id.specs.declared.id.BlockId.{BlockId}
-use Rattle.data_nodes.specs.Layout.{ids_of}
-use Rattle.data_tree.specs.Trees.{NoDoubles}
+use Rattle.mount_opening.specs.data_nodes.Layout.{ids_of}
+use Rattle.mount_opening.specs.data_tree.Trees.{NoDoubles}
 use Rattle.fs_model.specs.Tree.{Tree}
 use Rattle.fs_model.specs.declared.reply.Reply.TheVariants.{Done}
-use Rattle.local_state.specs.Known.{Lives, live_ids}
-use Rattle.local_state.specs.Record.{IsLeast}
-use Rattle.mount.specs.declared.mount.Mount.{Mount}
-use Rattle.mount.specs.Answering.{store_of, calls_of}
-use Rattle.mount.specs.Mounts.{IsReady}
-use Rattle.mount.specs.Tower.{tower}
+use Rattle.mount_opening.specs.local_state.Known.{Lives, live_ids}
+use Rattle.mount_opening.specs.local_state.Record.{IsLeast}
+use Rattle.mount_blocks.specs.mount.declared.mount.Mount.{Mount}
+use Rattle.mount_blocks.specs.mount.Answering.{store_of, calls_of}
+use Rattle.mount_blocks.specs.mount.Mounts.{IsReady}
+use Rattle.mount_blocks.specs.mount.Tower.{tower}
 use Rattle.mount_blocks.proofs.Living.{ids_rise}
-use Rattle.mount_core.specs.Answers.{OnSpent}
-use Rattle.mount_core.specs.Standing.{Left}
+use Rattle.mount_opening.specs.mount_core.Answers.{OnSpent}
+use Rattle.mount_opening.specs.mount_core.Standing.{Left}
 use Rattle.std.proofs.lemmas.List.{length-map}
 use Rattle.mount_migrating.specs.Migrating.{answer_of, told, AreUnspent, IsSpentAmong, Migrates, Raises}
 use Rattle.mount_migrating.specs.declared.error.MigrateError.{MigrateError}
 use Rattle.mount_migrating.specs.declared.error.MigrateError.TheVariants as error
 use Rattle.mount_migrating.specs.Noticing.{PassesNone}
 use Rattle.mount_migrating.proofs.Noticing.{along_same, passes_along}
-use Rattle.mount_tower.specs.Tower.{held_in, tower_meanings, tower_holdings, tower_durables}
-use Rattle.mount_tower.specs.TowerLaws.{tower_lawful}
+use Rattle.mount_blocks.specs.mount_tower.Tower.{held_in, tower_meanings, tower_holdings, tower_durables}
+use Rattle.mount_blocks.specs.mount_tower.TowerLaws.{tower_lawful}
 use Rattle.outside.specs.Going.{goes_on_same}
 use Rattle.outside.specs.Trace.{Call}
 use Rattle.outside.specs.declared.keeper.Keeper.{Ghosts as KeeperGhosts}
-use Rattle.store_api.specs.Content.{Id, id_cmp, same_id}
-use Rattle.store_api.specs.Durables.{Identity}
-use Rattle.store_api.specs.Holdings.{has_id}
-use Rattle.mount_core.specs.Showing.{ShowsFiles}
+use Rattle.mount_opening.specs.store_api.Content.{Id, id_cmp, same_id}
+use Rattle.mount_opening.specs.store_api.Durables.{Identity}
+use Rattle.mount_opening.specs.store_api.Holdings.{has_id}
+use Rattle.mount_opening.specs.mount_core.Showing.{ShowsFiles}
 use Rattle.mount_calls.specs.Migrating.{ids_in, least_in, tower_applied, MigratesMount}
 
 -- ---- ids that increase

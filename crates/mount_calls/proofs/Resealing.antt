@@ -2,29 +2,29 @@
 use Rattle.std.proofs.Common.{◌≡◌, ◌⊎◌, ◌++◌, ℕ, Bool, true, false, List, [], ◌∷◌, refl, sym, ◌∙◌, ap, subst, inl, inr}
 use Rattle.std.specs.declared.option.Option.{Option}
 use Rattle.std.specs.declared.option.Option.TheVariants.{Some}
-use Rattle.answers.specs.declared.answer.Answer.{Answer}
-use Rattle.answers.specs.Sessions.{is_violation}
-use Rattle.held_blocks.specs.Standing.{listed}
-use Rattle.integrity_store.specs.WaitingLaws.{in_order}
-use Rattle.local_state.specs.Record.{with_mark as mark_set}
-use Rattle.mount.specs.declared.mount.Mount.{Mount}
-use Rattle.mount.specs.Sealing.{Draw, HoldsSealed, View, AreSealed, IsSealedFor, SealsKnown}
-use Rattle.mount.specs.SealingLaws.{holds_marked, holds_more, holds_then, known_none, known_nothing, known_then, sealed_nothing}
-use Rattle.mount.specs.Tower.{tower}
-use Rattle.mount.proofs.Sealing.{step_seals, tower_applied, tower_drawn}
-use Rattle.mount_core.specs.declared.body.Core.{Core}
-use Rattle.mount_core.specs.Answering.{store_of}
-use Rattle.mount_core.specs.Keeping.{IsSameOrRecord}
+use Rattle.mount_opening.specs.answers.declared.answer.Answer.{Answer}
+use Rattle.mount_opening.specs.answers.Sessions.{is_violation}
+use Rattle.mount_blocks.specs.held_blocks.Standing.{listed}
+use Rattle.mount_blocks.specs.integrity_store.WaitingLaws.{in_order}
+use Rattle.mount_opening.specs.local_state.Record.{with_mark as mark_set}
+use Rattle.mount_blocks.specs.mount.declared.mount.Mount.{Mount}
+use Rattle.mount_blocks.specs.mount.Sealing.{Draw, HoldsSealed, View, AreSealed, IsSealedFor, SealsKnown}
+use Rattle.mount_blocks.specs.mount.SealingLaws.{holds_marked, holds_more, holds_then, known_none, known_nothing, known_then, sealed_nothing}
+use Rattle.mount_blocks.specs.mount.Tower.{tower}
+use Rattle.mount_blocks.proofs.mount_lemmas.Sealing.{step_seals, tower_applied, tower_drawn}
+use Rattle.mount_opening.specs.mount_core.declared.body.Core.{Core}
+use Rattle.mount_opening.specs.mount_core.Answering.{store_of}
+use Rattle.mount_opening.specs.mount_core.Keeping.{IsSameOrRecord}
 use Rattle.mount_migrating.specs.Drawing.{DrawsAnew, DrawsMarked, DrawsSteps, Reached, StepDraws}
-use Rattle.mount_tower.specs.Tower.{Cached, held_in, trace_in, tower_meanings, tower_holdings, tower_durables}
+use Rattle.mount_blocks.specs.mount_tower.Tower.{Cached, held_in, trace_in, tower_meanings, tower_holdings, tower_durables}
 use Rattle.outside.specs.Changes.{FileChanges, IsIncreasing, change_at}
 use Rattle.outside.specs.Trace.{Call, block}
 use Rattle.outside.specs.declared.keeper.Keeper.{Ghosts as KeeperGhosts}
 use Rattle.rand_core.specs.Stream.{Stream}
-use Rattle.session_saver.specs.declared.saver.Saver.{Saver}
-use Rattle.store_api.proofs.Draws.{later_same}
-use Rattle.store_api.specs.Durables.{with_mark}
-use Rattle.store_api.specs.Holdings.{has_id}
+use Rattle.mount_opening.specs.session_saver.declared.saver.Saver.{Saver}
+use Rattle.mount_opening.proofs.store_api_lemmas.Draws.{later_same}
+use Rattle.mount_opening.specs.store_api.Durables.{with_mark}
+use Rattle.mount_opening.specs.store_api.Holdings.{has_id}
 use Rattle.mount_calls.specs.Sealing.{StaysOrSealed, SealsAnew}
 
 -- ---- records

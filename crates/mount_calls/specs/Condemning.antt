@@ -2,17 +2,17 @@
 use Rattle.std.specs.Prelude.{◌≡◌, ◌⊎◌, ◌≤◌, ℕ, true, List}
 use Rattle.std.specs.declared.option.Option.{Option}
 use Rattle.std.specs.declared.option.Option.TheVariants.{Some}
-use Rattle.held_blocks.specs.Standing.{records}
-use Rattle.mount.specs.declared.mount.Mount.{Mount}
-use Rattle.mount.specs.Answering.{calls_of, keeper_faults, kept_of}
-use Rattle.mount.specs.Mounts.{IsReady}
-use Rattle.mount.specs.Tower.{TowerConfigures}
-use Rattle.mount_core.specs.Configuring.{KeptOneOf}
-use Rattle.mount_core.specs.Standing.{IsKeptMarked}
+use Rattle.mount_blocks.specs.held_blocks.Standing.{records}
+use Rattle.mount_blocks.specs.mount.declared.mount.Mount.{Mount}
+use Rattle.mount_blocks.specs.mount.Answering.{calls_of, keeper_faults, kept_of}
+use Rattle.mount_blocks.specs.mount.Mounts.{IsReady}
+use Rattle.mount_blocks.specs.mount.Tower.{TowerConfigures}
+use Rattle.mount_opening.specs.mount_core.Configuring.{KeptOneOf}
+use Rattle.mount_opening.specs.mount_core.Standing.{IsKeptMarked}
 use Rattle.outside.specs.Causes.{RoseBy}
 use Rattle.outside.specs.Trace.{Call}
 use Rattle.outside.specs.declared.keeper.Keeper.{Ghosts as KeeperGhosts}
-use Rattle.store_api.specs.Durables.{with_mark}
+use Rattle.mount_opening.specs.store_api.Durables.{with_mark}
 
 -- The mark was saved, or that save failed. The directory wasn't called, and as after a violation the mount serves no more.
 pub record Condemns {V : Type 0} {K : Type 0} (trace : V → Option (List Call)) (faults : V → ℕ) (G : KeeperGhosts K) (old new : Mount V K) : Type 0 where

@@ -1,29 +1,29 @@
 -- What writing blocks anew leaves of a mount.
 use Rattle.std.specs.Prelude.{◌≡◌, ◌⊎◌, ◌≤◌, ℕ, true, false, List, [], Result, OnOk, OnErr, IfOk, length}
 use Rattle.std.specs.declared.option.Option.{Option}
-use Rattle.answers.specs.Sessions.{is_violation, directory_faults, state_faults}
-use Rattle.batch_sealing.specs.Applied.{applied_by}
+use Rattle.mount_opening.specs.answers.Sessions.{is_violation, directory_faults, state_faults}
+use Rattle.mount_blocks.specs.batch_sealing.Applied.{applied_by}
 use Rattle.fs_model.specs.Tree.{Tree}
-use Rattle.held_blocks.specs.Standing.{records}
-use Rattle.local_state.specs.Known.{live_ids}
-use Rattle.local_state.specs.Record.{PlainState}
-use Rattle.mount.specs.declared.mount.Mount.{Mount}
-use Rattle.mount.specs.Answering.{store_of, calls_of, forgeries_of, lies_of, vault_faults, keeper_faults, kept_of}
-use Rattle.mount.specs.Tower.{tower, TowerStands, TowerConfigures}
-use Rattle.mount_core.specs.Answers.{is_structure, OnFound, OnSpent}
-use Rattle.mount_core.specs.Configuring.{ConfigAnswered}
-use Rattle.mount_core.specs.Standing.{Left, IsKeptMarked}
+use Rattle.mount_blocks.specs.held_blocks.Standing.{records}
+use Rattle.mount_opening.specs.local_state.Known.{live_ids}
+use Rattle.mount_opening.specs.local_state.Record.{PlainState}
+use Rattle.mount_blocks.specs.mount.declared.mount.Mount.{Mount}
+use Rattle.mount_blocks.specs.mount.Answering.{store_of, calls_of, forgeries_of, lies_of, vault_faults, keeper_faults, kept_of}
+use Rattle.mount_blocks.specs.mount.Tower.{tower, TowerStands, TowerConfigures}
+use Rattle.mount_opening.specs.mount_core.Answers.{is_structure, OnFound, OnSpent}
+use Rattle.mount_opening.specs.mount_core.Configuring.{ConfigAnswered}
+use Rattle.mount_opening.specs.mount_core.Standing.{Left, IsKeptMarked}
 use Rattle.mount_migrating.specs.Migrating.{told, IsFoundSince, IsSpentAmong, AreUnspent, Raises}
 use Rattle.mount_migrating.specs.Noticing.{PassesNone}
 use Rattle.mount_migrating.specs.declared.error.MigrateError.{MigrateError}
-use Rattle.mount_tower.specs.Identities.{KeepsRecord}
-use Rattle.mount_tower.specs.Tower.{Cached, held_in, sealed_held, sealed_trace, tower_meanings, tower_holdings, tower_durables}
+use Rattle.mount_blocks.specs.mount_tower.Identities.{KeepsRecord}
+use Rattle.mount_blocks.specs.mount_tower.Tower.{Cached, held_in, sealed_held, sealed_trace, tower_meanings, tower_holdings, tower_durables}
 use Rattle.outside.specs.Causes.{RoseBy}
 use Rattle.outside.specs.Going.{GoesOn}
 use Rattle.outside.specs.Trace.{Call}
 use Rattle.outside.specs.declared.keeper.Keeper.{Ghosts as KeeperGhosts}
-use Rattle.store_api.specs.Content.{Id, Changes}
-use Rattle.mount_core.specs.Showing.{Showing}
+use Rattle.mount_opening.specs.store_api.Content.{Id, Changes}
+use Rattle.mount_opening.specs.mount_core.Showing.{Showing}
 
 -- the live ids of a mount's store, and the least format that it takes
 abbrev pub ids_in : {V : Type 0} → {K : Type 0} → Mount V K → List Id

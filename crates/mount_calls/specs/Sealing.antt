@@ -2,16 +2,16 @@
 use Rattle.std.specs.Prelude.{◌≡◌, ◌⊎◌, ℕ, false, List}
 use Rattle.std.specs.declared.option.Option.{Option}
 use Rattle.std.specs.declared.option.Option.TheVariants.{Some}
-use Rattle.answers.specs.Sessions.{is_violation}
-use Rattle.answers.specs.declared.answer.Answer.{Answer}
-use Rattle.mount.specs.declared.mount.Mount.{Mount}
-use Rattle.mount.specs.Answering.{kept_of}
-use Rattle.mount.specs.Sealing.{Draw, HoldsSealed, SealsKnown, view_of}
+use Rattle.mount_opening.specs.answers.Sessions.{is_violation}
+use Rattle.mount_opening.specs.answers.declared.answer.Answer.{Answer}
+use Rattle.mount_blocks.specs.mount.declared.mount.Mount.{Mount}
+use Rattle.mount_blocks.specs.mount.Answering.{kept_of}
+use Rattle.mount_blocks.specs.mount.Sealing.{Draw, HoldsSealed, SealsKnown, view_of}
 use Rattle.outside.specs.Changes.{FileChanges}
 use Rattle.outside.specs.Trace.{Call, block}
 use Rattle.outside.specs.declared.keeper.Keeper.{Ghosts as KeeperGhosts}
 use Rattle.rand_core.specs.Stream.{Stream}
-use Rattle.store_api.specs.Durables.{with_mark}
+use Rattle.mount_opening.specs.store_api.Durables.{with_mark}
 
 -- it is what it was, or such a record
 abbrev pub StaysOrSealed : List Draw → FileChanges → Option (List ℕ) → Option (List ℕ) → Type 0

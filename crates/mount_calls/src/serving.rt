@@ -1,26 +1,26 @@
 // What an opened file system does.
 ghost use Rattle.std.specs.Prelude.{◌≡◌, true, false};
-ghost use Rattle.config_file.specs.Sealing.{sealed_file};
-ghost use Rattle.config_file.specs.Settings.{settings_of};
+ghost use Rattle.mount_blocks.specs.config_file.Sealing.{sealed_file};
+ghost use Rattle.mount_blocks.specs.config_file.Settings.{settings_of};
 ghost use Rattle.fs_model.specs.Fitting.{IsFitting};
 ghost use Rattle.fs_model.specs.declared.reply.Reply.TheVariants.{Done};
-ghost use Rattle.mount_core.specs.Showing.{ShowsFiles, is_sync};
-ghost use Rattle.mount_tower.specs.Drawing.{seal_drawn};
-ghost use Rattle.mount.specs.Answering.{MountAnswers};
-ghost use Rattle.mount.specs.Mounts.{IsReady};
-ghost use Rattle.mount.specs.Sealing.{SealsFresh, view_of};
-ghost use Rattle.mount.specs.Serving.{MountMoves, MountSyncs, ChangesPassword, MountLeaves, MountCloses};
+ghost use Rattle.mount_opening.specs.mount_core.Showing.{ShowsFiles, is_sync};
+ghost use Rattle.mount_blocks.specs.mount_tower.Drawing.{seal_drawn};
+ghost use Rattle.mount_blocks.specs.mount.Answering.{MountAnswers};
+ghost use Rattle.mount_blocks.specs.mount.Mounts.{IsReady};
+ghost use Rattle.mount_blocks.specs.mount.Sealing.{SealsFresh, view_of};
+ghost use Rattle.mount_blocks.specs.mount.Serving.{MountMoves, MountSyncs, ChangesPassword, MountLeaves, MountCloses};
 ghost use Rattle.mount_calls.specs.Condemning.{Condemns};
 
-use answers::Answer;
-use config_file::seal_config;
 use fs_model::{Command, Moment};
-use mount::Mount;
-use mount_answering::{mark, replace_config};
-use mount_tower::{draw_seal, into_vault};
+use mount_blocks::config_file::seal_config;
+use mount_blocks::mount::Mount;
+use mount_blocks::mount_tower::{draw_seal, into_vault};
+use mount_migrating::mount_answering::{mark, replace_config};
+use mount_opening::answers::Answer;
+use mount_opening::session_saver::SyncError;
 use outside::{Keeper, Vault};
 use rand_core::Rng;
-use session_saver::SyncError;
 use std::alloc::Global;
 
 /// Answers a command.
@@ -41,7 +41,7 @@ pub fn answer<V: Vault, K: Keeper, R: Rng>(
     ensures draws { SealsFresh (R.stream chance.old) (R.stream chance.new) (view_of V.trace mount.old)
         (view_of V.trace mount.new) }
 {
-    mount_answering::answer(alloc, &mut mount.core, now, command, chance)
+    mount_migrating::mount_answering::answer(alloc, &mut mount.core, now, command, chance)
 }
 
 /// Keeps what is present. There was no violation.
@@ -51,7 +51,7 @@ pub fn sync<V: Vault, K: Keeper>(alloc: Global, mount: &mut Mount<V, K>) -> Resu
     ensures moves { MountMoves V.trace V.faults K.Keeper mount.old mount.new result }
     ensures syncs { MountSyncs ShowsFiles V.trace V.faults K.Keeper mount.old mount.new result }
 {
-    mount_answering::sync(alloc, &mut mount.core)
+    mount_migrating::mount_answering::sync(alloc, &mut mount.core)
 }
 
 /// Seals the configuration under a new password, with the same parameters and new random bytes, and syncs. There was no
@@ -100,6 +100,6 @@ pub fn close<V: Vault, K: Keeper>(
     ensures closes { MountCloses ShowsFiles V.trace V.faults K.Keeper mount result.0 result.1 result.2 }
 {
     let Mount { core, opened: _ } = mount;
-    let (result, store, keeper) = mount_answering::close(alloc, core);
+    let (result, store, keeper) = mount_migrating::mount_answering::close(alloc, core);
     (result, into_vault(store), keeper)
 }

@@ -5,15 +5,15 @@ use Rattle.fs_model.specs.declared.error.FsError.{FsError}
 use Rattle.fs_model.specs.declared.reply.Reply.TheVariants.{Done, Error}
 use Rattle.fs_model.specs.Instant.{Instant}
 use Rattle.fs_model.specs.Tree.{Tree}
-use Rattle.outcome.specs.Meanings.{Meanings}
+use Rattle.session_saver.specs.outcome.Meanings.{Meanings}
 use Rattle.outside.specs.Causes.{RoseBy}
 use Rattle.outside.specs.Going.{GoesOn}
 use Rattle.answers.specs.declared.answer.Answer.{Answer}
 use Rattle.answers.specs.declared.answer.Answer.TheVariants.{Reply as Replied, Memory, Refused}
 use Rattle.answers.specs.Sessions.{Asked, FollowsAsked, is_violation, is_synced, directory_faults, state_faults}
-use Rattle.store_api.specs.Durables.{Durables}
-use Rattle.store_api.specs.Holdings.{Holdings, Stays}
-use Rattle.store_api.specs.Lists.{waiting_weight}
+use Rattle.session_saver.specs.store_api.Durables.{Durables}
+use Rattle.session_saver.specs.store_api.Holdings.{Holdings, Stays}
+use Rattle.session_saver.specs.store_api.Lists.{waiting_weight}
 use Rattle.session_saver.specs.Saving.{World, KeepsEmpty, KeptConfigures, Wrote, Leaves}
 use Rattle.session_saver.specs.declared.saver.SyncError.{SyncError}
 use Rattle.tree_commands.specs.Performing.{Showing, is_sync, IsReplyTo}

@@ -1,14 +1,14 @@
 -- What a line takes of the stream of chance, for the batch that it applies and for the new ids in it: a before, b after.
 use Rattle.std.specs.Prelude.{◌≡◌, ◌⊎◌, ℕ, true, List, is_some}
 use Rattle.std.specs.FinMap.{get}
-use Rattle.outcome.specs.Meanings.{Meanings}
+use Rattle.session_saver.specs.outcome.Meanings.{Meanings}
 use Rattle.rand_core.specs.Stream.{Stream, fill_bytes}
 use Rattle.session_saver.specs.Saving.{Wrote}
-use Rattle.store_api.specs.Content.{Id, Changes}
-use Rattle.store_api.specs.Draws.{IsLater}
-use Rattle.store_api.specs.Durables.{Durables}
-use Rattle.store_api.specs.Holdings.{Holdings, has_id}
-use Rattle.store_api.specs.Ids.{ComeOfSeed}
+use Rattle.session_saver.specs.store_api.Content.{Id, Changes}
+use Rattle.session_saver.specs.store_api.Draws.{IsLater}
+use Rattle.session_saver.specs.store_api.Durables.{Durables}
+use Rattle.session_saver.specs.store_api.Holdings.{Holdings, has_id}
+use Rattle.session_saver.specs.store_api.Ids.{ComeOfSeed}
 
 -- the changes' new ids come of this seed
 abbrev pub NamesOfSeed : {S : Type 0} → Holdings S → List ℕ → S → Changes → Type 0

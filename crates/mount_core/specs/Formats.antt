@@ -1,7 +1,7 @@
 -- From which format on the record that is kept has a store take block files.
 use Rattle.std.specs.Prelude.{◌≡◌, ◌⊎◌, ℕ, List}
 use Rattle.std.specs.declared.option.Option.{Option}
-use Rattle.store_api.specs.Durables.{Durables, Records}
+use Rattle.session_saver.specs.store_api.Durables.{Durables, Records}
 use Rattle.session_saver.specs.Saving.{World, IsRecordOf}
 use Rattle.mount_core.specs.Standing.{IsKeptMarked}
 

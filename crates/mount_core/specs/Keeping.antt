@@ -7,9 +7,9 @@ use Rattle.answers.specs.declared.answer.Answer.{Answer}
 use Rattle.outside.specs.declared.keeper.Keeper.{Ghosts as KeeperGhosts}
 use Rattle.session_saver.specs.Saving.{World, IsRecordOf}
 use Rattle.session_saver.specs.declared.saver.Saver.{Saver}
-use Rattle.store_api.specs.Durables.{Durables, Records, with_mark}
-use Rattle.store_api.specs.Holdings.{Stays}
-use Rattle.store_api.specs.Lists.{with_config}
+use Rattle.session_saver.specs.store_api.Durables.{Durables, Records, with_mark}
+use Rattle.session_saver.specs.store_api.Holdings.{Stays}
+use Rattle.session_saver.specs.store_api.Lists.{with_config}
 
 -- what it was, or a record of this store, with its list or with an empty one
 abbrev pub IsSameOrRecord : {S : Type 0} → Durables S → S → Option (List ℕ) → Option (List ℕ) → Type 0

@@ -16,9 +16,9 @@ use Rattle.answers.specs.declared.answer.Answer.TheVariants.{Reply as Replied, M
 use Rattle.answers.specs.Hosts.{IsLongReply}
 use Rattle.answers.specs.Sessions.{Asked, FollowsAsked, is_violation, is_sync, is_synced, directory_faults, state_faults}
 use Rattle.answers.proofs.Looked.{long_stays}
-use Rattle.store_api.specs.Holdings.{Holdings}
-use Rattle.outcome.specs.Meanings.{Lawful, Meanings}
-use Rattle.store_api.specs.Durables.{Durables, Records}
+use Rattle.session_saver.specs.store_api.Holdings.{Holdings}
+use Rattle.session_saver.specs.outcome.Meanings.{Lawful, Meanings}
+use Rattle.session_saver.specs.store_api.Durables.{Durables, Records}
 use Rattle.session_saver.proofs.Steps.{stays_same, true_is_false}
 use Rattle.mount_core.specs.declared.body.Core.{Core}
 use Rattle.mount_core.specs.Answering.{store_of, IsBadLineAnswer, LineAnswers}

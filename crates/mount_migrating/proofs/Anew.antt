@@ -3,32 +3,32 @@ use Rattle.std.proofs.Common.{◌≡◌, ◌≤◌, ◌+◌, ◌^◌, ℕ, true,
 use Rattle.std.specs.Prelude.{is_some}
 use Rattle.std.specs.declared.option.Option.TheVariants.{Some}
 use Rattle.std.specs.declared.result.Result.TheVariants.{Err}
-use Rattle.answers.specs.declared.answer.Answer.TheVariants.{Memory, Spent}
-use Rattle.answers.specs.Sessions.{state_faults}
+use Rattle.mount_answering.specs.answers.declared.answer.Answer.TheVariants.{Memory, Spent}
+use Rattle.mount_answering.specs.answers.Sessions.{state_faults}
 use Rattle.block_id.specs.declared.fail.Fail.{Fail}
 use Rattle.block_id.specs.declared.fail.Fail.TheVariants as fail
 use Rattle.fs_model.specs.Tree.{Tree}
-use Rattle.outcome.specs.Meanings.{Meanings, Lawful, IsCalm, IsOfBlocks, OnVerdict, HasCause, UnlessFault}
+use Rattle.mount_answering.specs.outcome.Meanings.{Meanings, Lawful, IsCalm, IsOfBlocks, OnVerdict, HasCause, UnlessFault}
 use Rattle.outside.specs.Causes.{RoseBy}
 use Rattle.outside.specs.Going.{goes_on_onward, goes_on_equal, goes_on_same}
 use Rattle.outside.specs.declared.keeper.Keeper.{Ghosts as KeeperGhosts}
-use Rattle.session_saver.specs.Saving.{world}
-use Rattle.session_saver.specs.declared.saver.Saver.{Saver}
-use Rattle.store_api.specs.Content.{Id, Changes, SameContent}
-use Rattle.store_api.proofs.Rising.{same_id_is}
-use Rattle.store_api.specs.Durables.{Durables, Records, Enduring}
-use Rattle.store_api.specs.Holdings.{Holdings, Steady, Stays, Changed, IsSpent}
-use Rattle.store_api.specs.declared.blocks.ApplyError.{ApplyError}
-use Rattle.store_api.specs.declared.blocks.ApplyError.TheVariants as apply_error
-use Rattle.mount_core.specs.Showing.{Showing}
-use Rattle.mount_core.specs.declared.body.Core.{Core}
-use Rattle.mount_core.specs.Answering.{store_of}
-use Rattle.mount_core.specs.Answers.{answer_of_fail, OnSpent}
-use Rattle.mount_core.specs.Standing.{CoreStands}
-use Rattle.mount_core.proofs.Moving.{SameShown}
+use Rattle.mount_answering.specs.session_saver.Saving.{world}
+use Rattle.mount_answering.specs.session_saver.declared.saver.Saver.{Saver}
+use Rattle.mount_answering.specs.store_api.Content.{Id, Changes, SameContent}
+use Rattle.mount_answering.proofs.store_api_lemmas.Rising.{same_id_is}
+use Rattle.mount_answering.specs.store_api.Durables.{Durables, Records, Enduring}
+use Rattle.mount_answering.specs.store_api.Holdings.{Holdings, Steady, Stays, Changed, IsSpent}
+use Rattle.mount_answering.specs.store_api.declared.blocks.ApplyError.{ApplyError}
+use Rattle.mount_answering.specs.store_api.declared.blocks.ApplyError.TheVariants as apply_error
+use Rattle.mount_answering.specs.mount_core.Showing.{Showing}
+use Rattle.mount_answering.specs.mount_core.declared.body.Core.{Core}
+use Rattle.mount_answering.specs.mount_core.Answering.{store_of}
+use Rattle.mount_answering.specs.mount_core.Answers.{answer_of_fail, OnSpent}
+use Rattle.mount_answering.specs.mount_core.Standing.{CoreStands}
+use Rattle.mount_answering.proofs.mount_core_lemmas.Moving.{SameShown}
 use Rattle.mount_answering.proofs.Lines.{calm, configures_loaded, configures_on, found_of, of_blocks, stands_loaded, stands_on}
 use Rattle.mount_answering.proofs.Quiet.{fail_directory, fail_directory_rose}
-use Rattle.data_tree.proofs.Ids.{same_self}
+use Rattle.mount_answering.proofs.data_tree_lemmas.Ids.{same_self}
 use Rattle.mount_migrating.specs.Migrating.{answer_of, error_of_apply, error_of_fail, told, AreUnspent, HasReason, IsFoundSince, IsSpentAmong, Proceeds, Raises}
 use Rattle.mount_migrating.proofs.Batches.{one, one_says, one_self, one_leaves, one_ids, one_has, one_rests}
 

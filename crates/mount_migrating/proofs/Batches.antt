@@ -6,12 +6,12 @@ use Rattle.std.specs.FinMap.{get-empty, get-insert}
 use Rattle.std.specs.declared.option.Option.{Option}
 use Rattle.std.specs.declared.option.Option.TheVariants.{None, Some}
 use Rattle.std.proofs.lemmas.Option.{same_Some, none-some}
-use Rattle.data_tree.proofs.Ids.{same_self}
-use Rattle.mount_core.specs.Drawing.{NamesKnown}
-use Rattle.outcome.specs.Meanings.{Meanings}
-use Rattle.store_api.proofs.Rising.{ids_total, same_id_is}
-use Rattle.store_api.specs.Content.{Id, Content, SameContent, Changes, id_cmp, same_id, or_else, over}
-use Rattle.store_api.specs.Holdings.{Holdings, Steady, FitsStore, MayGet, has_id, gives_payload}
+use Rattle.mount_answering.proofs.data_tree_lemmas.Ids.{same_self}
+use Rattle.mount_answering.specs.mount_core.Drawing.{NamesKnown}
+use Rattle.mount_answering.specs.outcome.Meanings.{Meanings}
+use Rattle.mount_answering.proofs.store_api_lemmas.Rising.{ids_total, same_id_is}
+use Rattle.mount_answering.specs.store_api.Content.{Id, Content, SameContent, Changes, id_cmp, same_id, or_else, over}
+use Rattle.mount_answering.specs.store_api.Holdings.{Holdings, Steady, FitsStore, MayGet, has_id, gives_payload}
 
 -- this payload for this id
 abbrev pub one : Id → List ℕ → Changes

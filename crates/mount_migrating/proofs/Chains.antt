@@ -3,16 +3,16 @@ use Rattle.std.proofs.Common.{◌≡◌, ◌≤◌, ◌+◌, List, [], refl, sym
 use Rattle.std.specs.Prelude.{Result, OnOk, OnErr}
 use Rattle.std.specs.declared.result.Result.TheVariants.{Ok, Err}
 use Rattle.fs_model.specs.Tree.{Tree}
-use Rattle.outcome.specs.Meanings.{Meanings}
+use Rattle.mount_answering.specs.outcome.Meanings.{Meanings}
 use Rattle.outside.specs.declared.keeper.Keeper.{Ghosts as KeeperGhosts}
-use Rattle.session_saver.specs.Saving.{world}
-use Rattle.store_api.specs.Content.{Id}
-use Rattle.store_api.specs.Durables.{Durables, Records}
-use Rattle.store_api.specs.Holdings.{Holdings}
-use Rattle.mount_core.specs.Showing.{Showing}
-use Rattle.mount_core.specs.declared.body.Core.{Core}
-use Rattle.mount_core.specs.Answering.{store_of}
-use Rattle.mount_core.specs.Standing.{CoreStands}
+use Rattle.mount_answering.specs.session_saver.Saving.{world}
+use Rattle.mount_answering.specs.store_api.Content.{Id}
+use Rattle.mount_answering.specs.store_api.Durables.{Durables, Records}
+use Rattle.mount_answering.specs.store_api.Holdings.{Holdings}
+use Rattle.mount_answering.specs.mount_core.Showing.{Showing}
+use Rattle.mount_answering.specs.mount_core.declared.body.Core.{Core}
+use Rattle.mount_answering.specs.mount_core.Answering.{store_of}
+use Rattle.mount_answering.specs.mount_core.Standing.{CoreStands}
 use Rattle.mount_answering.proofs.Lines.{spent_on}
 use Rattle.mount_migrating.specs.Migrating.{told, IsMigratedRecord, IsSpentAmong, Moves, Raises, Renews, Rests}
 use Rattle.mount_migrating.specs.declared.error.MigrateError.{MigrateError}

@@ -2,12 +2,12 @@
 use Rattle.std.proofs.Common.{◌≡◌, ◌≢◌, ◌<◌, ◌≤◌, ◌+◌, ◌^◌, ◌||◌, ◌++◌, ℕ, zero, suc, Bool, true, false, List, [], ◌∷◌, map, length, take, drop, drop-cons, get_or, refl, sym, ◌∙◌, ap, subst, inl, inr, arith}
 use Rattle.std.proofs.lemmas.List.{drop-map, take-append-drop}
 use Rattle.block_id.specs.declared.id.BlockId.{BlockId}
-use Rattle.data_tree.proofs.Ids.{apart_right, in_one, in_right, not_both, same_self}
-use Rattle.data_tree.specs.Trees.{NoDoubles}
-use Rattle.store_api.proofs.Rising.{same_id_is}
-use Rattle.store_api.specs.Content.{Id, same_id}
-use Rattle.store_api.specs.Durables.{Durables, IsNewFile}
-use Rattle.store_api.specs.Holdings.{Holdings, has_id}
+use Rattle.mount_answering.proofs.data_tree_lemmas.Ids.{apart_right, in_one, in_right, not_both, same_self}
+use Rattle.mount_answering.specs.data_tree.Trees.{NoDoubles}
+use Rattle.mount_answering.proofs.store_api_lemmas.Rising.{same_id_is}
+use Rattle.mount_answering.specs.store_api.Content.{Id, same_id}
+use Rattle.mount_answering.specs.store_api.Durables.{Durables, IsNewFile}
+use Rattle.mount_answering.specs.store_api.Holdings.{Holdings, has_id}
 use Rattle.mount_migrating.specs.Migrating.{AreNew, AreUnspent, IsSpentAmong, Raises}
 use Rattle.mount_migrating.proofs.Batches.{one_has}
 

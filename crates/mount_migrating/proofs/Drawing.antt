@@ -3,22 +3,22 @@ use Rattle.std.proofs.Common.{◌≡◌, ◌⊎◌, ◌++◌, ℕ, false, List, 
 use Rattle.std.specs.Prelude.{Result, Vec}
 use Rattle.std.specs.declared.option.Option.TheVariants.{Some}
 use Rattle.std.specs.declared.result.Result.TheVariants.{Ok, Err}
-use Rattle.outcome.specs.Meanings.{Meanings, Lawful}
+use Rattle.mount_answering.specs.outcome.Meanings.{Meanings, Lawful}
 use Rattle.outside.specs.declared.keeper.Keeper.{Ghosts as KeeperGhosts}
 use Rattle.rand_core.specs.Stream.{Stream}
-use Rattle.session_saver.specs.Saving.{world, Wrote, ShortSaved}
-use Rattle.session_saver.specs.declared.saver.Saver.{Saver}
-use Rattle.session_saver.specs.declared.saver.SyncError.{SyncError}
-use Rattle.session_saver.specs.declared.saver.SyncError.TheVariants.{Memory, FaultDirectory, FaultState}
-use Rattle.store_api.specs.Content.{Changes}
-use Rattle.store_api.specs.Durables.{Durables, Records}
-use Rattle.store_api.specs.Holdings.{Holdings}
-use Rattle.store_api.proofs.Draws.{later_same}
-use Rattle.mount_core.specs.declared.body.Core.{Core}
-use Rattle.mount_core.specs.Answering.{store_of}
-use Rattle.mount_core.specs.Drawing.{DrawsOnce, NamesKnown}
-use Rattle.mount_core.specs.Keeping.{IsSameOrRecord, SyncKeeps}
-use Rattle.mount_core.proofs.Moving.{stays_same}
+use Rattle.mount_answering.specs.session_saver.Saving.{world, Wrote, ShortSaved}
+use Rattle.mount_answering.specs.session_saver.declared.saver.Saver.{Saver}
+use Rattle.mount_answering.specs.session_saver.declared.saver.SyncError.{SyncError}
+use Rattle.mount_answering.specs.session_saver.declared.saver.SyncError.TheVariants.{Memory, FaultDirectory, FaultState}
+use Rattle.mount_answering.specs.store_api.Content.{Changes}
+use Rattle.mount_answering.specs.store_api.Durables.{Durables, Records}
+use Rattle.mount_answering.specs.store_api.Holdings.{Holdings}
+use Rattle.mount_answering.proofs.store_api_lemmas.Draws.{later_same}
+use Rattle.mount_answering.specs.mount_core.declared.body.Core.{Core}
+use Rattle.mount_answering.specs.mount_core.Answering.{store_of}
+use Rattle.mount_answering.specs.mount_core.Drawing.{DrawsOnce, NamesKnown}
+use Rattle.mount_answering.specs.mount_core.Keeping.{IsSameOrRecord, SyncKeeps}
+use Rattle.mount_answering.proofs.mount_core_lemmas.Moving.{stays_same}
 use Rattle.mount_migrating.specs.Drawing.{DrawsAlong, DrawsAnew, DrawsSteps, Reached, StepDraws}
 
 -- ---- what is kept

@@ -5,24 +5,24 @@ use Rattle.std.specs.declared.option.Option.{Option}
 use Rattle.std.specs.declared.option.Option.TheVariants.{Some}
 use Rattle.std.specs.declared.result.Result.TheVariants.{Ok, Err}
 use Rattle.fs_model.specs.Tree.{Tree}
-use Rattle.outcome.specs.Meanings.{Meanings}
+use Rattle.mount_answering.specs.outcome.Meanings.{Meanings}
 use Rattle.outside.specs.Causes.{RoseBy}
 use Rattle.outside.specs.Going.{goes_on_equal}
 use Rattle.outside.specs.declared.keeper.Keeper.{Ghosts as KeeperGhosts}
-use Rattle.session_saver.specs.Saving.{world, ShortSaved, UnlessState}
-use Rattle.session_saver.specs.declared.saver.Saver.{Saver}
-use Rattle.session_saver.specs.declared.saver.SyncError.{SyncError}
-use Rattle.session_saver.specs.declared.saver.SyncError.TheVariants as sync_error
-use Rattle.store_api.specs.Content.{Changes}
-use Rattle.store_api.specs.Durables.{Identity, Durables, Records, Enduring}
-use Rattle.store_api.specs.Holdings.{Holdings, Steady, Stays}
-use Rattle.store_api.specs.Leaving.{SetsLeast, StaysMeant}
-use Rattle.mount_core.specs.Showing.{Showing}
-use Rattle.mount_core.specs.declared.body.Core.{Core}
-use Rattle.mount_core.specs.Answering.{store_of}
-use Rattle.mount_core.specs.Configuring.{CoreConfigures, KeptOneOf}
-use Rattle.mount_core.specs.Standing.{CoreStands, Roomed}
-use Rattle.mount_core.proofs.Moving.{keeps_along, shown_along, SameShown}
+use Rattle.mount_answering.specs.session_saver.Saving.{world, ShortSaved, UnlessState}
+use Rattle.mount_answering.specs.session_saver.declared.saver.Saver.{Saver}
+use Rattle.mount_answering.specs.session_saver.declared.saver.SyncError.{SyncError}
+use Rattle.mount_answering.specs.session_saver.declared.saver.SyncError.TheVariants as sync_error
+use Rattle.mount_answering.specs.store_api.Content.{Changes}
+use Rattle.mount_answering.specs.store_api.Durables.{Identity, Durables, Records, Enduring}
+use Rattle.mount_answering.specs.store_api.Holdings.{Holdings, Steady, Stays}
+use Rattle.mount_answering.specs.store_api.Leaving.{SetsLeast, StaysMeant}
+use Rattle.mount_answering.specs.mount_core.Showing.{Showing}
+use Rattle.mount_answering.specs.mount_core.declared.body.Core.{Core}
+use Rattle.mount_answering.specs.mount_core.Answering.{store_of}
+use Rattle.mount_answering.specs.mount_core.Configuring.{CoreConfigures, KeptOneOf}
+use Rattle.mount_answering.specs.mount_core.Standing.{CoreStands, Roomed}
+use Rattle.mount_answering.proofs.mount_core_lemmas.Moving.{keeps_along, shown_along, SameShown}
 use Rattle.mount_answering.proofs.Lines.{stays_on}
 use Rattle.mount_migrating.specs.Migrating.{error_of_sync, told, HasReason, Proceeds, IsMigratedRecord, Rests}
 use Rattle.mount_migrating.proofs.NewFiles.{new_same}

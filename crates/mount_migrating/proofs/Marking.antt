@@ -3,24 +3,24 @@ use Rattle.std.proofs.Common.{◌≡◌, ◌⊎◌, ◌≤◌, Bool, true, false
 use Rattle.std.specs.Prelude.{Result, OnOk}
 use Rattle.std.specs.declared.option.Option.TheVariants.{Some}
 use Rattle.std.specs.declared.result.Result.TheVariants.{Ok, Err}
-use Rattle.answers.specs.Sessions.{is_violation}
+use Rattle.mount_answering.specs.answers.Sessions.{is_violation}
 use Rattle.block_id.specs.declared.fail.Why.{Why}
 use Rattle.fs_model.specs.Tree.{Tree}
-use Rattle.outcome.specs.Meanings.{Meanings}
+use Rattle.mount_answering.specs.outcome.Meanings.{Meanings}
 use Rattle.outside.specs.Causes.{RoseBy}
 use Rattle.outside.specs.Going.{GoesOn}
 use Rattle.outside.specs.declared.keeper.Keeper.{Ghosts as KeeperGhosts}
-use Rattle.session_saver.specs.Saving.{world, CanMark}
-use Rattle.store_api.specs.Content.{Changes, Id, SameIds}
-use Rattle.store_api.specs.Durables.{Durables, Records, Enduring, with_mark}
-use Rattle.store_api.specs.Holdings.{Holdings}
-use Rattle.store_api.specs.declared.tx.Tx.{Tx}
-use Rattle.mount_core.specs.Showing.{Showing}
-use Rattle.mount_core.specs.declared.body.Core.{Core}
-use Rattle.mount_core.specs.Answering.{store_of}
-use Rattle.mount_core.specs.Answers.{OnFound}
-use Rattle.mount_core.specs.Standing.{CoreStands, IsKeptMarked, Keeps, Left, Roomed}
-use Rattle.mount_core.proofs.Moving.{keeps_along}
+use Rattle.mount_answering.specs.session_saver.Saving.{world, CanMark}
+use Rattle.mount_answering.specs.store_api.Content.{Changes, Id, SameIds}
+use Rattle.mount_answering.specs.store_api.Durables.{Durables, Records, Enduring, with_mark}
+use Rattle.mount_answering.specs.store_api.Holdings.{Holdings}
+use Rattle.mount_answering.specs.store_api.declared.tx.Tx.{Tx}
+use Rattle.mount_answering.specs.mount_core.Showing.{Showing}
+use Rattle.mount_answering.specs.mount_core.declared.body.Core.{Core}
+use Rattle.mount_answering.specs.mount_core.Answering.{store_of}
+use Rattle.mount_answering.specs.mount_core.Answers.{OnFound}
+use Rattle.mount_answering.specs.mount_core.Standing.{CoreStands, IsKeptMarked, Keeps, Left, Roomed}
+use Rattle.mount_answering.proofs.mount_core_lemmas.Moving.{keeps_along}
 use Rattle.mount_answering.proofs.Lines.{config_calm, config_marked, marked_or, true_is_false}
 use Rattle.mount_migrating.specs.Migrating.{told, is_done, IsFoundSince, Migrates, Moves, Raises}
 use Rattle.mount_migrating.specs.declared.error.MigrateError.{MigrateError}

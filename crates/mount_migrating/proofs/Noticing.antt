@@ -2,19 +2,19 @@
 use Rattle.std.proofs.Common.{◌≡◌, ◌⊎◌, ◌++◌, ◌∙◌, ℕ, true, List, [], ◌∷◌, refl, subst, inl, inr}
 use Rattle.std.specs.Prelude.{is_some}
 use Rattle.std.specs.declared.result.Result.TheVariants.{Err}
-use Rattle.answers.specs.declared.answer.Answer.{Answer}
-use Rattle.answers.specs.declared.answer.Answer.TheVariants.{Reply as Replied}
+use Rattle.mount_answering.specs.answers.declared.answer.Answer.{Answer}
+use Rattle.mount_answering.specs.answers.declared.answer.Answer.TheVariants.{Reply as Replied}
 use Rattle.block_id.specs.declared.fail.Fail.{Fail}
 use Rattle.block_id.specs.declared.fail.Why.{Why}
 use Rattle.fs_model.specs.declared.reply.Reply.TheVariants.{Done}
-use Rattle.outcome.specs.Meanings.{Meanings, Lawful, Tells}
-use Rattle.session_saver.specs.Saving.{Wrote}
-use Rattle.store_api.specs.Content.{Id, Changes}
-use Rattle.store_api.specs.Durables.{Durables}
-use Rattle.store_api.specs.Holdings.{Holdings, Stays}
-use Rattle.mount_core.specs.Answers.{answer_of_fail, Notices}
-use Rattle.mount_core.specs.NoticeLaws.{none_came, notices_of}
-use Rattle.mount_core.proofs.Moving.{stays_same}
+use Rattle.mount_answering.specs.outcome.Meanings.{Meanings, Lawful, Tells}
+use Rattle.mount_answering.specs.session_saver.Saving.{Wrote}
+use Rattle.mount_answering.specs.store_api.Content.{Id, Changes}
+use Rattle.mount_answering.specs.store_api.Durables.{Durables}
+use Rattle.mount_answering.specs.store_api.Holdings.{Holdings, Stays}
+use Rattle.mount_answering.specs.mount_core.Answers.{answer_of_fail, Notices}
+use Rattle.mount_answering.specs.mount_core.NoticeLaws.{none_came, notices_of}
+use Rattle.mount_answering.proofs.mount_core_lemmas.Moving.{stays_same}
 use Rattle.mount_answering.proofs.Lines.{stays_on}
 use Rattle.mount_migrating.specs.Migrating.{error_of_fail, told}
 use Rattle.mount_migrating.specs.Noticing.{IsRenewed, NoticedAlong, OnlySet, PassesNone, Stretch, Stretches}

@@ -1,20 +1,20 @@
 -- Steps after one another.
 use Rattle.std.proofs.Common.{◌≡◌, List, refl, ◌∙◌, subst, inl, inr, arith}
-use Rattle.answers.specs.declared.answer.Answer.{Answer}
-use Rattle.answers.specs.Sessions.{directory_faults, state_faults}
+use Rattle.mount_answering.specs.answers.declared.answer.Answer.{Answer}
+use Rattle.mount_answering.specs.answers.Sessions.{directory_faults, state_faults}
 use Rattle.fs_model.specs.Tree.{Tree}
-use Rattle.outcome.specs.Meanings.{Meanings}
+use Rattle.mount_answering.specs.outcome.Meanings.{Meanings}
 use Rattle.outside.specs.Causes.{RoseBy}
 use Rattle.outside.specs.Going.{goes_on_onward, goes_on_same}
 use Rattle.outside.specs.declared.keeper.Keeper.{Ghosts as KeeperGhosts}
-use Rattle.session_saver.specs.Saving.{world}
-use Rattle.store_api.specs.Content.{Id}
-use Rattle.store_api.specs.Durables.{Durables, Records}
-use Rattle.store_api.specs.Holdings.{Holdings}
-use Rattle.mount_core.specs.Showing.{Showing}
-use Rattle.mount_core.specs.declared.body.Core.{Core}
-use Rattle.mount_core.specs.Answering.{store_of}
-use Rattle.mount_core.specs.Standing.{CoreStands, Roomed}
+use Rattle.mount_answering.specs.session_saver.Saving.{world}
+use Rattle.mount_answering.specs.store_api.Content.{Id}
+use Rattle.mount_answering.specs.store_api.Durables.{Durables, Records}
+use Rattle.mount_answering.specs.store_api.Holdings.{Holdings}
+use Rattle.mount_answering.specs.mount_core.Showing.{Showing}
+use Rattle.mount_answering.specs.mount_core.declared.body.Core.{Core}
+use Rattle.mount_answering.specs.mount_core.Answering.{store_of}
+use Rattle.mount_answering.specs.mount_core.Standing.{CoreStands, Roomed}
 use Rattle.mount_answering.proofs.Lines.{found_map, spent_on}
 use Rattle.mount_migrating.specs.Migrating.{Proceeds, HasReason, IsSpentAmong}
 

@@ -2,19 +2,19 @@
 use Rattle.std.proofs.Common.{◌≡◌, List, [], refl, arith}
 use Rattle.std.specs.Prelude.{Result}
 use Rattle.std.specs.declared.result.Result.TheVariants.{Ok, Err}
-use Rattle.answers.specs.declared.answer.Answer.TheVariants.{Reply as Replied}
+use Rattle.mount_answering.specs.answers.declared.answer.Answer.TheVariants.{Reply as Replied}
 use Rattle.fs_model.specs.declared.reply.Reply.TheVariants.{Done}
-use Rattle.outcome.specs.Meanings.{Meanings}
+use Rattle.mount_answering.specs.outcome.Meanings.{Meanings}
 use Rattle.outside.specs.declared.keeper.Keeper.{Ghosts as KeeperGhosts}
-use Rattle.session_saver.specs.Saving.{world, Leaves}
-use Rattle.session_saver.specs.declared.saver.SyncError.{SyncError}
-use Rattle.session_saver.specs.declared.saver.SyncError.TheVariants as sync_error
-use Rattle.store_api.specs.Content.{Id, Changes}
-use Rattle.store_api.specs.Durables.{Durables, Records, Enduring}
-use Rattle.store_api.specs.Holdings.{Holdings}
-use Rattle.mount_core.specs.Showing.{Showing}
-use Rattle.mount_core.specs.declared.body.Core.{Core}
-use Rattle.mount_core.specs.Answering.{store_of, CoreMoves, CoreSyncs}
+use Rattle.mount_answering.specs.session_saver.Saving.{world, Leaves}
+use Rattle.mount_answering.specs.session_saver.declared.saver.SyncError.{SyncError}
+use Rattle.mount_answering.specs.session_saver.declared.saver.SyncError.TheVariants as sync_error
+use Rattle.mount_answering.specs.store_api.Content.{Id, Changes}
+use Rattle.mount_answering.specs.store_api.Durables.{Durables, Records, Enduring}
+use Rattle.mount_answering.specs.store_api.Holdings.{Holdings}
+use Rattle.mount_answering.specs.mount_core.Showing.{Showing}
+use Rattle.mount_answering.specs.mount_core.declared.body.Core.{Core}
+use Rattle.mount_answering.specs.mount_core.Answering.{store_of, CoreMoves, CoreSyncs}
 use Rattle.mount_answering.proofs.Synced.{config_roomed, roomed}
 use Rattle.mount_migrating.specs.Migrating.{error_of_sync, told, HasReason, Proceeds, Rests}
 use Rattle.mount_migrating.proofs.NewFiles.{new_synced}

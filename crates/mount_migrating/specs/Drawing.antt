@@ -1,16 +1,16 @@
 -- What writing blocks anew takes of the stream of chance, and what it leaves as kept: a before, b after.
 use Rattle.std.specs.Prelude.{◌≡◌, ◌⊎◌, true, false, List, [], ◌∷◌}
 use Rattle.std.specs.declared.option.Option.TheVariants.{Some}
-use Rattle.answers.specs.Sessions.{is_violation}
-use Rattle.answers.specs.declared.answer.Answer.{Answer}
+use Rattle.mount_answering.specs.answers.Sessions.{is_violation}
+use Rattle.mount_answering.specs.answers.declared.answer.Answer.{Answer}
 use Rattle.rand_core.specs.Stream.{Stream}
-use Rattle.session_saver.specs.Saving.{World, Wrote}
-use Rattle.store_api.specs.Content.{Changes}
-use Rattle.store_api.specs.Durables.{with_mark}
-use Rattle.mount_core.specs.declared.body.Core.{Core}
-use Rattle.mount_core.specs.Answering.{store_of}
-use Rattle.mount_core.specs.Drawing.{DrawsOnce, NamesKnown}
-use Rattle.mount_core.specs.Keeping.{SyncKeeps}
+use Rattle.mount_answering.specs.session_saver.Saving.{World, Wrote}
+use Rattle.mount_answering.specs.store_api.Content.{Changes}
+use Rattle.mount_answering.specs.store_api.Durables.{with_mark}
+use Rattle.mount_answering.specs.mount_core.declared.body.Core.{Core}
+use Rattle.mount_answering.specs.mount_core.Answering.{store_of}
+use Rattle.mount_answering.specs.mount_core.Drawing.{DrawsOnce, NamesKnown}
+use Rattle.mount_answering.specs.mount_core.Keeping.{SyncKeeps}
 use Rattle.mount_migrating.specs.Noticing.{OnlySet}
 
 -- a session that is reached, with what is left of the stream there

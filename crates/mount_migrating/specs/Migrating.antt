@@ -1,31 +1,31 @@
 -- What writing blocks anew makes of a session: old before, new after it.
 use Rattle.std.specs.Prelude.{◌≡◌, ◌≢◌, ◌⊎◌, ◌≤◌, ◌+◌, ◌^◌, ℕ, Bool, true, false, List, [], Result, Ok, Err, OnOk, OnErr, is_some}
 use Rattle.std.specs.declared.option.Option.TheVariants.{Some}
-use Rattle.answers.specs.declared.answer.Answer.{Answer}
-use Rattle.answers.specs.declared.answer.Answer.TheVariants.{Reply as Replied, Memory, Spent, FaultDirectory, FaultState, Violation}
-use Rattle.answers.specs.Sessions.{is_violation, directory_faults, state_faults}
+use Rattle.mount_answering.specs.answers.declared.answer.Answer.{Answer}
+use Rattle.mount_answering.specs.answers.declared.answer.Answer.TheVariants.{Reply as Replied, Memory, Spent, FaultDirectory, FaultState, Violation}
+use Rattle.mount_answering.specs.answers.Sessions.{is_violation, directory_faults, state_faults}
 use Rattle.block_id.specs.declared.fail.Fail.{Fail}
 use Rattle.block_id.specs.declared.fail.Fail.TheVariants as fail
 use Rattle.block_id.specs.declared.fail.Why.{Why}
 use Rattle.fs_model.specs.Tree.{Tree}
 use Rattle.fs_model.specs.declared.reply.Reply.TheVariants.{Done}
-use Rattle.outcome.specs.Meanings.{Meanings}
+use Rattle.mount_answering.specs.outcome.Meanings.{Meanings}
 use Rattle.outside.specs.Causes.{RoseBy}
 use Rattle.outside.specs.Going.{GoesOn}
-use Rattle.session_saver.specs.Saving.{World}
-use Rattle.session_saver.specs.declared.saver.SyncError.{SyncError}
-use Rattle.session_saver.specs.declared.saver.SyncError.TheVariants as sync_error
-use Rattle.store_api.specs.Content.{Id, SameIds}
-use Rattle.store_api.specs.Durables.{Durables, IsNewFile}
-use Rattle.store_api.specs.Holdings.{Holdings, has_id}
-use Rattle.store_api.specs.declared.blocks.ApplyError.{ApplyError}
-use Rattle.store_api.specs.declared.blocks.ApplyError.TheVariants as apply_error
-use Rattle.mount_core.specs.Showing.{Showing}
-use Rattle.mount_core.specs.declared.body.Core.{Core}
-use Rattle.mount_core.specs.Answering.{store_of}
-use Rattle.mount_core.specs.Answers.{is_structure, OnFound, OnSpent}
-use Rattle.mount_core.specs.Configuring.{CoreConfigures, ConfigAnswered}
-use Rattle.mount_core.specs.Standing.{CoreStands, Roomed, Left, IsKeptMarked}
+use Rattle.mount_answering.specs.session_saver.Saving.{World}
+use Rattle.mount_answering.specs.session_saver.declared.saver.SyncError.{SyncError}
+use Rattle.mount_answering.specs.session_saver.declared.saver.SyncError.TheVariants as sync_error
+use Rattle.mount_answering.specs.store_api.Content.{Id, SameIds}
+use Rattle.mount_answering.specs.store_api.Durables.{Durables, IsNewFile}
+use Rattle.mount_answering.specs.store_api.Holdings.{Holdings, has_id}
+use Rattle.mount_answering.specs.store_api.declared.blocks.ApplyError.{ApplyError}
+use Rattle.mount_answering.specs.store_api.declared.blocks.ApplyError.TheVariants as apply_error
+use Rattle.mount_answering.specs.mount_core.Showing.{Showing}
+use Rattle.mount_answering.specs.mount_core.declared.body.Core.{Core}
+use Rattle.mount_answering.specs.mount_core.Answering.{store_of}
+use Rattle.mount_answering.specs.mount_core.Answers.{is_structure, OnFound, OnSpent}
+use Rattle.mount_answering.specs.mount_core.Configuring.{CoreConfigures, ConfigAnswered}
+use Rattle.mount_answering.specs.mount_core.Standing.{CoreStands, Roomed, Left, IsKeptMarked}
 use Rattle.mount_migrating.specs.declared.error.MigrateError.{MigrateError}
 use Rattle.mount_migrating.specs.declared.error.MigrateError.TheVariants as error
 

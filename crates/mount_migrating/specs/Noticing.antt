@@ -2,14 +2,14 @@
 use Rattle.std.specs.Prelude.{◌≡◌, ◌⊎◌, ℕ, true, List, [], ◌∷◌, is_some}
 use Rattle.std.specs.FinMap as fin
 use Rattle.std.specs.declared.option.Option.TheVariants.{Some}
-use Rattle.answers.specs.declared.answer.Answer.{Answer}
+use Rattle.mount_answering.specs.answers.declared.answer.Answer.{Answer}
 use Rattle.block_id.specs.declared.fail.Why.{Why}
-use Rattle.mount_core.specs.Answers.{Notices}
-use Rattle.outcome.specs.Meanings.{Meanings}
-use Rattle.session_saver.specs.Saving.{Wrote}
-use Rattle.store_api.specs.Content.{Id, Changes}
-use Rattle.store_api.specs.Durables.{Durables}
-use Rattle.store_api.specs.Holdings.{Holdings, Stays}
+use Rattle.mount_answering.specs.mount_core.Answers.{Notices}
+use Rattle.mount_answering.specs.outcome.Meanings.{Meanings}
+use Rattle.mount_answering.specs.session_saver.Saving.{Wrote}
+use Rattle.mount_answering.specs.store_api.Content.{Id, Changes}
+use Rattle.mount_answering.specs.store_api.Durables.{Durables}
+use Rattle.mount_answering.specs.store_api.Holdings.{Holdings, Stays}
 
 -- one live block got a payload anew, by a batch that names no other
 pub record IsRenewed {S : Type 0} (H : Holdings S) (applied : S → S → Changes → Type 0) (a b : S) : Type 0 where

@@ -8,3 +8,7 @@ mod renewing;
 
 pub use error::MigrateError;
 pub use migrating::migrate_ids;
+
+// Handed on to crates above, which needn't list them.
+pub use mount_answering;
+pub use mount_answering::{script_text, session_saver};

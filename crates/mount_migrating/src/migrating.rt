@@ -1,9 +1,9 @@
 // All blocks, and the record.
 ghost use Rattle.std.specs.Prelude.{◌≡◌, false, map, OnOk};
-ghost use Rattle.data_tree.specs.Trees.{NoDoubles};
-ghost use Rattle.session_saver.specs.Saving.{world};
-ghost use Rattle.mount_core.specs.Showing.{ShowsFiles};
-ghost use Rattle.mount_core.specs.Standing.{Ready};
+ghost use Rattle.mount_answering.specs.data_tree.Trees.{NoDoubles};
+ghost use Rattle.mount_answering.specs.session_saver.Saving.{world};
+ghost use Rattle.mount_answering.specs.mount_core.Showing.{ShowsFiles};
+ghost use Rattle.mount_answering.specs.mount_core.Standing.{Ready};
 ghost use Rattle.mount_migrating.specs.Drawing.{DrawsAnew, DrawsMarked};
 ghost use Rattle.mount_migrating.specs.Migrating.{told, AreLive, IsMigratedRecord, Migrates, Moves};
 ghost use Rattle.mount_migrating.specs.Noticing.{PassesNone};
@@ -13,11 +13,11 @@ use crate::raising::raise_least;
 use crate::renewing::{keep_present, renew_all};
 use block_id::BlockId;
 use mount_answering::mark;
-use mount_core::Core;
+use mount_answering::mount_core::Core;
+use mount_answering::store_api::Durable;
 use outside::Keeper;
 use rand_core::Rng;
 use std::alloc::Global;
-use store_api::Durable;
 
 /// Writes the blocks anew, keeps them, and then has the record say so.
 fn migrate_blocks<S: Durable, K: Keeper, R: Rng>(

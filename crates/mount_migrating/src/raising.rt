@@ -1,17 +1,17 @@
 // The record that says that no older format is taken.
 ghost use Rattle.std.specs.Prelude.{◌≡◌, false, OnOk, OnErr};
-ghost use Rattle.session_saver.specs.Saving.{world};
-ghost use Rattle.store_api.specs.Durables.{MayBeLeast};
-ghost use Rattle.mount_core.specs.Showing.{ShowsFiles};
-ghost use Rattle.mount_core.specs.Standing.{Ready};
+ghost use Rattle.mount_answering.specs.session_saver.Saving.{world};
+ghost use Rattle.mount_answering.specs.store_api.Durables.{MayBeLeast};
+ghost use Rattle.mount_answering.specs.mount_core.Showing.{ShowsFiles};
+ghost use Rattle.mount_answering.specs.mount_core.Standing.{Ready};
 ghost use Rattle.mount_migrating.specs.Drawing.{SetsOnly};
 ghost use Rattle.mount_migrating.specs.Migrating.{IsMigratedRecord, Rests};
 
 use crate::error::{MigrateError, sync_error};
-use mount_core::Core;
+use mount_answering::mount_core::Core;
+use mount_answering::store_api::Durable;
 use outside::Keeper;
 use std::alloc::Global;
-use store_api::Durable;
 
 /// No older format is taken any more, and the record that says so is kept; where it isn't, older ones are taken as before,
 /// and the next sync keeps that.

@@ -1,24 +1,24 @@
 // Blocks that are written anew.
 ghost use Rattle.std.specs.Prelude.{◌≡◌, ◌<◌, true, false, is_some, [], ◌∷◌, map, OnOk};
 ghost use Rattle.fs_model.specs.Tree.{Tree};
-ghost use Rattle.data_tree.specs.Trees.{NoDoubles};
-ghost use Rattle.session_saver.specs.Saving.{world};
-ghost use Rattle.store_api.specs.Lists.{waiting_bytes};
-ghost use Rattle.mount_core.specs.Showing.{ShowsFiles};
-ghost use Rattle.mount_core.specs.Drawing.{DrawsOnce, NamesKnown};
-ghost use Rattle.mount_core.specs.Standing.{CoreStands, Ready};
+ghost use Rattle.mount_answering.specs.data_tree.Trees.{NoDoubles};
+ghost use Rattle.mount_answering.specs.session_saver.Saving.{world};
+ghost use Rattle.mount_answering.specs.store_api.Lists.{waiting_bytes};
+ghost use Rattle.mount_answering.specs.mount_core.Showing.{ShowsFiles};
+ghost use Rattle.mount_answering.specs.mount_core.Drawing.{DrawsOnce, NamesKnown};
+ghost use Rattle.mount_answering.specs.mount_core.Standing.{CoreStands, Ready};
 ghost use Rattle.mount_migrating.specs.Drawing.{DrawsAlong, StepDraws, SyncLeaves};
 ghost use Rattle.mount_migrating.specs.Migrating.{told, AreLive, Renews, Rests};
 ghost use Rattle.mount_migrating.specs.Noticing.{NoticedAlong};
 
 use crate::error::{MigrateError, apply_error, load_error, sync_error};
 use block_id::{BlockId, Memory};
+use mount_answering::mount_core::Core;
+use mount_answering::store_api::{Batch, Blocks, BlocksMut, Durable};
 use mount_answering::sync;
-use mount_core::Core;
 use outside::Keeper;
 use rand_core::Rng;
 use std::alloc::Global;
-use store_api::{Batch, Blocks, BlocksMut, Durable};
 
 /// Bytes that wait before the next block comes after a sync.
 const MOST_WAITING: usize = 8_388_608;

@@ -5,8 +5,8 @@ use Rattle.std.specs.declared.option.Option.{Option}
 use Rattle.std.specs.declared.result.Result.TheVariants.{Ok, Err}
 use Rattle.outside.specs.Changes.{FileChanges}
 use Rattle.outside.specs.Trace.{Call}
-use Rattle.local_state.specs.Record.{PlainState, IsRecord}
-use Rattle.held_blocks.specs.Standing.{listed}
+use Rattle.session_saver.specs.local_state.Record.{PlainState, IsRecord}
+use Rattle.integrity_store.specs.held_blocks.Standing.{listed}
 use Rattle.integrity_store.specs.declared.store.IntegrityStore.{IntegrityStore}
 use Rattle.config_file.specs.declared.config.Cipher.{Cipher}
 use Rattle.session_saver.specs.Saving.{KeepsEmpty}

@@ -5,13 +5,13 @@ use Rattle.std.specs.declared.option.Option.TheVariants.{None, Some}
 use Rattle.std.proofs.lemmas.Option.{same_Some, none-some}
 use Rattle.outside.specs.Changes.{FileChanges}
 use Rattle.outside.specs.Trace.{Call, config}
-use Rattle.local_state.specs.Record.{PlainState, record_bytes, HasRecord, IsRecord}
-use Rattle.local_state.proofs.Records.{one_reading, written_record}
-use Rattle.held_blocks.specs.Held.{Held}
-use Rattle.aes_gcm.specs.Gcm.{opened_of}
-use Rattle.redo_vault.specs.Redo.{Gave}
-use Rattle.held_blocks.specs.Standing.{Configures, identity_of, records}
-use Rattle.held_blocks.specs.Stores.{IsNoBlock}
+use Rattle.session_saver.specs.local_state.Record.{PlainState, record_bytes, HasRecord, IsRecord}
+use Rattle.session_saver.proofs.local_state_lemmas.Records.{one_reading, written_record}
+use Rattle.integrity_store.specs.held_blocks.Held.{Held}
+use Rattle.config_file.specs.aes_gcm.Gcm.{opened_of}
+use Rattle.integrity_store.specs.redo_vault.Redo.{Gave}
+use Rattle.integrity_store.specs.held_blocks.Standing.{Configures, identity_of, records}
+use Rattle.integrity_store.specs.held_blocks.Stores.{IsNoBlock}
 use Rattle.config_file.proofs.Waiting.{form_waits}
 use Rattle.config_file.specs.Format.{HasForm}
 use Rattle.config_file.specs.Settings.{Settings}

@@ -8,11 +8,11 @@ use Rattle.std.specs.Cmp.Lexicographic.{slice_cmp}
 use Rattle.std.specs.declared.option.Option.{Option}
 use Rattle.std.specs.declared.option.Option.TheVariants.{None, Some}
 use Rattle.outside.specs.Trace.{Call}
-use Rattle.local_state.specs.declared.life.Life.{Life}
-use Rattle.local_state.specs.Known.{Lives, FitsLife, FitLives}
-use Rattle.local_state.specs.Record.{PlainState, HasRecord}
-use Rattle.held_blocks.specs.Soundness.{IsUntouched}
-use Rattle.store_api.specs.Holdings.{has_id}
+use Rattle.session_saver.specs.local_state.declared.life.Life.{Life}
+use Rattle.session_saver.specs.local_state.Known.{Lives, FitsLife, FitLives}
+use Rattle.session_saver.specs.local_state.Record.{PlainState, HasRecord}
+use Rattle.integrity_store.specs.held_blocks.Soundness.{IsUntouched}
+use Rattle.block_cache.specs.store_api.Holdings.{has_id}
 use Rattle.mount_tower.specs.Making.{IsUnchanged}
 use Rattle.mount_tower.specs.Opening.{ReadsConfigOnce}
 use Rattle.mount_tower.proofs.Reading.{true_is_false, reads_told, reads_last}

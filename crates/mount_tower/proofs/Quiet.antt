@@ -4,7 +4,7 @@ use Rattle.std.specs.Prelude.{Result}
 use Rattle.std.specs.declared.option.Option.{Option}
 use Rattle.std.specs.declared.result.Result.TheVariants.{Ok, Err}
 use Rattle.integrity_store.proofs.WriteOuts.{wrote, same_count, forgeries_spare}
-use Rattle.held_blocks.specs.Forgeries.{forged}
+use Rattle.integrity_store.specs.held_blocks.Forgeries.{forged}
 use Rattle.mount_tower.specs.Opening.{error_of}
 use Rattle.mount_tower.specs.Tower.{Cached, trace_in, tower_durables}
 use Rattle.mount_tower.specs.declared.error.OpenError.{OpenError}

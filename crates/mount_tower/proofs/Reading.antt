@@ -10,17 +10,17 @@ use Rattle.outside.specs.Going.{GoesOn, goes_on_call, goes_on_equal}
 use Rattle.outside.specs.Trace.{At, Call, config, got, adds}
 use Rattle.outside.specs.Honest.{is_lie, count_calls, count_told}
 use Rattle.outside.specs.Changes.{FileChanges, change_at, cut}
-use Rattle.local_state.specs.Record.{PlainState, IsRecord}
-use Rattle.local_state.proofs.Records.{one_reading}
-use Rattle.redo_vault.specs.Redo.{Gave}
-use Rattle.store_api.specs.Content.{Content}
-use Rattle.store_api.specs.Durables.{Identity, last_told}
-use Rattle.held_blocks.proofs.ConfigReads.{read_forgeries}
+use Rattle.session_saver.specs.local_state.Record.{PlainState, IsRecord}
+use Rattle.session_saver.proofs.local_state_lemmas.Records.{one_reading}
+use Rattle.integrity_store.specs.redo_vault.Redo.{Gave}
+use Rattle.block_cache.specs.store_api.Content.{Content}
+use Rattle.block_cache.specs.store_api.Durables.{Identity, last_told}
+use Rattle.integrity_store.proofs.held_blocks_lemmas.ConfigReads.{read_forgeries}
 use Rattle.integrity_store.specs.EnduringLaws.{enduring_by}
-use Rattle.held_blocks.specs.Held.{Held}
-use Rattle.held_blocks.specs.Forgeries.{forged}
-use Rattle.held_blocks.specs.Standing.{Stands, Configures, records}
-use Rattle.held_blocks.specs.Stores.{version_in}
+use Rattle.integrity_store.specs.held_blocks.Held.{Held}
+use Rattle.integrity_store.specs.held_blocks.Forgeries.{forged}
+use Rattle.integrity_store.specs.held_blocks.Standing.{Stands, Configures, records}
+use Rattle.integrity_store.specs.held_blocks.Stores.{version_in}
 use Rattle.config_file.specs.ConfigOf.{ConfigOf, opened}
 use Rattle.config_file.specs.Settings.{Settings, settings_of}
 use Rattle.config_file.specs.declared.config.Opened.{Opened}

@@ -4,9 +4,9 @@ use Rattle.std.specs.declared.option.Option.{Option}
 use Rattle.std.specs.declared.option.Option.TheVariants.{Some}
 use Rattle.sha2.specs.Sha256.{sha256}
 use Rattle.outside.specs.Changes.{FileChanges}
-use Rattle.aes_gcm.specs.Gcm.{opened_of}
-use Rattle.local_state.specs.Record.{PlainState, IsRecord}
-use Rattle.store_api.specs.Durables.{Identity}
+use Rattle.config_file.specs.aes_gcm.Gcm.{opened_of}
+use Rattle.session_saver.specs.local_state.Record.{PlainState, IsRecord}
+use Rattle.block_cache.specs.store_api.Durables.{Identity}
 use Rattle.config_file.specs.Settings.{Settings}
 
 -- what a record alone says of who holds a file system: the salt of the key's digest, and the number of the client

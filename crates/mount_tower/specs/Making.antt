@@ -7,9 +7,9 @@ use Rattle.block_id.specs.Fresh.{zero_id}
 use Rattle.block_id.specs.Name.{next_id}
 use Rattle.outside.specs.Causes.{RoseBy}
 use Rattle.outside.specs.Trace.{At, Call, adds, got, config}
-use Rattle.store_api.specs.Content.{Id}
-use Rattle.store_api.specs.Durables.{last_told}
-use Rattle.store_api.specs.Holdings.{has_id}
+use Rattle.block_cache.specs.store_api.Content.{Id}
+use Rattle.block_cache.specs.store_api.Durables.{last_told}
+use Rattle.block_cache.specs.store_api.Holdings.{has_id}
 use Rattle.integrity_store.specs.declared.store.IntegrityStore.{IntegrityStore}
 use Rattle.config_file.specs.Settings.{Settings}
 use Rattle.config_file.specs.declared.config.Cipher.{Cipher}

@@ -7,9 +7,9 @@ use Rattle.sha2.specs.Sha256.{sha256}
 use Rattle.outside.specs.Causes.{RoseBy}
 use Rattle.outside.specs.Changes.{FileChanges, change_at}
 use Rattle.outside.specs.Trace.{Call, config, got, adds}
-use Rattle.local_state.specs.Record.{PlainState}
-use Rattle.redo_vault.specs.Redo.{Gave}
-use Rattle.held_blocks.specs.Stores.{version_in}
+use Rattle.session_saver.specs.local_state.Record.{PlainState}
+use Rattle.integrity_store.specs.redo_vault.Redo.{Gave}
+use Rattle.integrity_store.specs.held_blocks.Stores.{version_in}
 use Rattle.config_file.specs.ConfigOf.{ConfigOf, opened, form, locked, inner}
 use Rattle.config_file.specs.Settings.{Settings, settings_of}
 use Rattle.config_file.specs.declared.config.Opened.{Opened}

@@ -3,9 +3,9 @@ use Rattle.std.specs.Prelude.{◌≡◌, ℕ, List}
 use Rattle.std.specs.declared.option.Option.{Option}
 use Rattle.outside.specs.Changes.{FileChanges}
 use Rattle.outside.specs.Trace.{Call}
-use Rattle.local_state.specs.Record.{PlainState}
-use Rattle.store_api.specs.Holdings.{IsFew}
-use Rattle.held_blocks.specs.Held.{Held}
+use Rattle.session_saver.specs.local_state.Record.{PlainState}
+use Rattle.block_cache.specs.store_api.Holdings.{IsFew}
+use Rattle.integrity_store.specs.held_blocks.Held.{Held}
 use Rattle.integrity_store.specs.Made.{IsMadeOf}
 use Rattle.config_file.specs.Settings.{Settings, settings_of}
 use Rattle.config_file.specs.declared.config.Opened.{Opened}

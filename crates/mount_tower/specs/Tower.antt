@@ -2,19 +2,19 @@
 use Rattle.std.specs.Prelude.{ℕ, List}
 use Rattle.std.specs.declared.option.Option.{Option}
 use Rattle.outside.specs.Trace.{Call}
-use Rattle.outcome.specs.Meanings.{Meanings}
-use Rattle.sealed_store.specs.Stores.{IsIntact, block_size_of}
-use Rattle.store_api.specs.Holdings.{Holdings}
-use Rattle.store_api.specs.Durables.{Durables}
+use Rattle.block_cache.specs.outcome.Meanings.{Meanings}
+use Rattle.integrity_store.specs.sealed_store.Stores.{IsIntact, block_size_of}
+use Rattle.block_cache.specs.store_api.Holdings.{Holdings}
+use Rattle.block_cache.specs.store_api.Durables.{Durables}
 use Rattle.integrity_store.specs.declared.store.IntegrityStore.{IntegrityStore}
-use Rattle.held_blocks.specs.Held.{Held}
-use Rattle.held_blocks.specs.Standing.{durables_by}
-use Rattle.held_blocks.specs.Stores.{meanings_by, holdings_by}
+use Rattle.integrity_store.specs.held_blocks.Held.{Held}
+use Rattle.integrity_store.specs.held_blocks.Standing.{durables_by}
+use Rattle.integrity_store.specs.held_blocks.Stores.{meanings_by, holdings_by}
 use Rattle.integrity_store.specs.Views.{held_by}
 use Rattle.block_cache.specs.declared.cache.BlockCache.{BlockCache}
 use Rattle.block_cache.specs.Through.{meanings_past, holdings_past, durables_past}
 use Rattle.config_file.specs.declared.config.Cipher.{Cipher}
-use Rattle.aes_gcm.specs.Gcm.{opened_of}
+use Rattle.config_file.specs.aes_gcm.Gcm.{opened_of}
 
 -- ---- sealed blocks
 

@@ -2,10 +2,10 @@
 use Rattle.std.specs.Prelude.{ℕ, List}
 use Rattle.std.specs.declared.option.Option.{Option}
 use Rattle.block_cache.specs.Through.{lawful_past}
-use Rattle.held_blocks.specs.StoreLaws.{lawful_by}
-use Rattle.outcome.specs.Meanings.{Lawful}
+use Rattle.integrity_store.specs.held_blocks.StoreLaws.{lawful_by}
+use Rattle.block_cache.specs.outcome.Meanings.{Lawful}
 use Rattle.outside.specs.Trace.{Call}
-use Rattle.sealed_store.specs.Stores.{IsIntact, block_size_of}
+use Rattle.integrity_store.specs.sealed_store.Stores.{IsIntact, block_size_of}
 use Rattle.mount_tower.specs.Tower.{sealed_held, sealed_trace, sealed_meanings, sealed_holdings, tower_meanings}
 
 pub tower_lawful : {V : Type 0} (trace : V → Option (List Call)) (faults : V → ℕ) → Lawful (tower_meanings trace faults)

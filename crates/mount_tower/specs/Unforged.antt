@@ -4,7 +4,7 @@ use Rattle.std.specs.declared.option.Option.{Option}
 use Rattle.std.specs.declared.option.Option.TheVariants.{None, Some}
 use Rattle.outside.specs.Changes.{FileChanges, change_at}
 use Rattle.outside.specs.Trace.{Call, config, got}
-use Rattle.local_state.specs.Record.{PlainState}
+use Rattle.session_saver.specs.local_state.Record.{PlainState}
 use Rattle.scrypt_kdf.specs.Cost.{Cost}
 use Rattle.config_file.specs.ConfigOf.{ConfigOf, opened}
 use Rattle.config_file.specs.Settings.{Settings}

@@ -13,3 +13,8 @@ pub use error::{OpenError, open_error};
 pub use making::{NewStore, ask_absent, new_store};
 pub use opening::{MAX_CONFIG, Opening, Unread, open_store};
 pub use tower::{Cached, into_vault};
+
+// Handed on to crates above, which needn't list them.
+pub use config_file;
+pub use config_file::aes_gcm;
+pub use session_saver;

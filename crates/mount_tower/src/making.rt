@@ -8,7 +8,7 @@ ghost use Rattle.outside.specs.Trace.{adds, got, config};
 ghost use Rattle.config_file.specs.ConfigOf.{IsOnly, opened as opened_as};
 ghost use Rattle.config_file.specs.Sealing.{sealed_file};
 ghost use Rattle.config_file.specs.Settings.{IsBlockSize, settings_of};
-ghost use Rattle.local_state.specs.Record.{HasRecord, plain_state};
+ghost use Rattle.session_saver.specs.local_state.Record.{HasRecord, plain_state};
 ghost use Rattle.mount_tower.specs.declared.opening.TheConstants.{MAX_CONFIG};
 ghost use Rattle.mount_tower.specs.Drawing.{drawn};
 ghost use Rattle.mount_tower.specs.Failing.{TellsFault};
@@ -21,12 +21,12 @@ use crate::opening::MAX_CONFIG;
 use block_id::{BlockId, Memory};
 use config_file::{Cipher, Config, seal_config};
 use integrity_store::IntegrityStore;
-use local_state::{Known, State, key_digest};
+use integrity_store::redo_vault::RedoVault;
+use integrity_store::sealed_store::SealedStore;
 use outside::{FileName, GetFail, Keeper, Vault};
 use rand_core::Rng;
-use redo_vault::RedoVault;
 use scrypt_kdf::Params;
-use sealed_store::SealedStore;
+use session_saver::local_state::{Known, State, key_digest};
 use std::alloc::Global;
 
 /// Sees that nothing is there: nothing is kept, and the directory gives no configuration.

@@ -2,10 +2,10 @@
 ghost use Rattle.std.specs.Prelude.{◌≡◌, ◌≢◌, ◌≤◌, ℕ, List, false, IfOk, IfErr, OnOk, OnErr};
 ghost use Rattle.std.specs.FinMap as fin;
 ghost use Rattle.outside.specs.View.{list_of};
-ghost use Rattle.local_state.specs.Record.{plain_state, HasRecord, IsRecord};
-ghost use Rattle.store_api.specs.Content.{Content, SameContent};
-ghost use Rattle.held_blocks.specs.Stores.{version_in};
-ghost use Rattle.held_blocks.specs.Standing.{Stands as StandsFor};
+ghost use Rattle.session_saver.specs.local_state.Record.{plain_state, HasRecord, IsRecord};
+ghost use Rattle.block_cache.specs.store_api.Content.{Content, SameContent};
+ghost use Rattle.integrity_store.specs.held_blocks.Stores.{version_in};
+ghost use Rattle.integrity_store.specs.held_blocks.Standing.{Stands as StandsFor};
 ghost use Rattle.config_file.specs.Settings.{settings_of, IsBlockSize};
 ghost use Rattle.mount_tower.specs.Opening.{OpenedConfig, IsOf, ReadsConfigOnce, ConfigCause};
 ghost use Rattle.mount_tower.specs.Identities.{Holder, identity_for};
@@ -16,10 +16,10 @@ ghost use Rattle.std.specs.declared.result.Result.TheVariants.{Err};
 use crate::error::OpenError;
 use crate::tower::{Cached, cached_store};
 use config_file::{Config, ConfigError, FILE_LEN, Opened, open_config};
-use local_state::{State, key_digest};
+use integrity_store::redo_vault::RedoVault;
+use integrity_store::sealed_store::SealedStore;
 use outside::{FileName, GetFail, Pending, Vault};
-use redo_vault::RedoVault;
-use sealed_store::SealedStore;
+use session_saver::local_state::{State, key_digest};
 use std::alloc::Global;
 
 /// Bytes of the configuration's file that are asked for: one more than it has.

@@ -2,23 +2,23 @@
 ghost use Rattle.std.specs.Prelude.{◌≡◌, ◌≤◌, ◌-◌, ◌/◌, max, IfOk, IfErr};
 ghost use Rattle.outside.specs.Trace.{config};
 ghost use Rattle.outside.specs.Changes.{change_at};
-ghost use Rattle.local_state.specs.Record.{plain_state, HasRecord};
-ghost use Rattle.store_api.specs.Holdings.{IsFew};
-ghost use Rattle.sealed_store.specs.Stores.{IsIntact, block_size_of};
-ghost use Rattle.held_blocks.specs.Standing.{records};
-ghost use Rattle.held_blocks.specs.Stores.{IsNoBlock};
-ghost use Rattle.held_blocks.specs.Views.{held_of};
+ghost use Rattle.session_saver.specs.local_state.Record.{plain_state, HasRecord};
+ghost use Rattle.block_cache.specs.store_api.Holdings.{IsFew};
+ghost use Rattle.integrity_store.specs.sealed_store.Stores.{IsIntact, block_size_of};
+ghost use Rattle.integrity_store.specs.held_blocks.Standing.{records};
+ghost use Rattle.integrity_store.specs.held_blocks.Stores.{IsNoBlock};
+ghost use Rattle.integrity_store.specs.held_blocks.Views.{held_of};
 ghost use Rattle.integrity_store.specs.Made.{IsSoundAs};
-ghost use Rattle.aes_gcm.specs.Gcm.{opened_of};
+ghost use Rattle.config_file.specs.aes_gcm.Gcm.{opened_of};
 ghost use Rattle.mount_tower.specs.Stores.{ComesBack, HoldsAll};
 ghost use Rattle.mount_tower.specs.Tower.{vault_in, trace_in, tower_meanings, tower_holdings, tower_durables};
 
 use block_cache::BlockCache;
 use config_file::Cipher;
 use integrity_store::IntegrityStore;
-use local_state::State;
+use integrity_store::sealed_store::SealedStore;
 use outside::Vault;
-use sealed_store::SealedStore;
+use session_saver::local_state::State;
 use std::alloc::Global;
 
 /// A store of sealed blocks, behind a cache.

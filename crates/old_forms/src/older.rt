@@ -5,15 +5,15 @@ ghost use Rattle.block_id.specs.Formats.{format_in};
 ghost use Rattle.block_id.specs.declared.format.Format.TheVariants.{Alone};
 ghost use Rattle.config_file.specs.Settings.{IsBlockSize};
 
-use aes_gcm::Aes256Gcm;
 use block_id::BlockId;
+use config_file::aes_gcm::Aes256Gcm;
 use config_file::{Config, open_config};
 use local_state::{decode, encode_form1};
 use memory_outside::MemoryVault;
 use outside::{Change, FileName, Pending};
-use redo_vault::RedoVault;
 use seal_api::Sealer;
 use sealed_store::SealedStore;
+use sealed_store::redo_vault::RedoVault;
 use std::alloc::Global;
 use std::test::Fail;
 

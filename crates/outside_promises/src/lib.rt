@@ -5,3 +5,6 @@ mod expected;
 pub mod keeper_promises;
 pub mod listing_promises;
 pub mod vault_promises;
+
+// Handed on to crates above, which needn't list them.
+pub use listing;

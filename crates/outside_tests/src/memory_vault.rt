@@ -3,9 +3,9 @@ use crate::vault_calls::{
     fails_to_get, fails_to_put, fails_to_remove, gets, misses, puts, removes,
 };
 use block_id::BlockId;
-use listing::{ByteLine, Listing};
 use memory_outside::MemoryVault;
 use outside::{Change, FileName, GetFail, Pending};
+use outside_promises::listing::{ByteLine, Listing};
 use std::alloc::{AllocError, Global};
 use std::test::Fail;
 

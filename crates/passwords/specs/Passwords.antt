@@ -3,7 +3,7 @@ use Rattle.std.specs.Prelude.{◌≡◌, ◌⊎◌, ◌<◌, ℕ, true, List, []
 use Rattle.std.specs.declared.option.Option.{Option}
 use Rattle.std.specs.declared.option.Option.TheVariants.{Some}
 use Rattle.outside.specs.Streams.{WereTaken, Ends}
-use Rattle.script_text.specs.declared.grammar.TheConstants.{MAX_LINE}
+use Rattle.line_io.specs.script_text.declared.grammar.TheConstants.{MAX_LINE}
 use Rattle.line_io.specs.Lines.{lines, first_of, first_line, IsUnbroken}
 use Rattle.line_io.specs.Reading.{Reading, Line, coming, total}
 use Rattle.line_io.specs.Streams.{Stream, HasFailed, TookMost, Untouched}

@@ -2,7 +2,7 @@
 ghost use Rattle.std.specs.Prelude.{◌≡◌, ◌≤◌, List, [], ℕ, IfOk, IfErr, length, vec_capacity};
 ghost use Rattle.std.specs.declared.option.Option.TheVariants.{Some};
 ghost use Rattle.std.specs.declared.result.Result.TheVariants.{Err};
-ghost use Rattle.script_text.specs.declared.grammar.TheConstants.{MAX_LINE};
+ghost use Rattle.line_io.specs.script_text.declared.grammar.TheConstants.{MAX_LINE};
 ghost use Rattle.line_io.specs.Streams.{stream_of};
 ghost use Rattle.passwords.specs.Passwords.{PasswordsRead, PasswordsUnread};
 

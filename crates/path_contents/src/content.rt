@@ -1,27 +1,27 @@
 // Commands that change the content of a file.
 ghost use Rattle.std.specs.Prelude.{◌≡◌, ◌≤◌, ◌∷◌, IfOk, false, length};
-ghost use Rattle.outcome.specs.Outcome.{Outcome};
+ghost use Rattle.path_entries.specs.outcome.Outcome.{Outcome};
 ghost use Rattle.fs_model.specs.Tree.{upward, directory_size};
 ghost use Rattle.fs_model.specs.LookUp.{Found, look};
 ghost use Rattle.fs_model.specs.Step.{written, truncated};
 ghost use Rattle.fs_model.specs.Step as step;
 ghost use Rattle.fs_model.specs.declared.limits.TheConstants.{MAX_FILE};
-ghost use Rattle.forest.specs.Showing.{BlobsShow, Performed};
-ghost use Rattle.path_walks.specs.Replies.{IsChangeReply};
-ghost use Rattle.fs_blobs.specs.Blobs.{IsBlob};
+ghost use Rattle.path_entries.specs.forest.Showing.{BlobsShow, Performed};
+ghost use Rattle.path_entries.specs.path_walks.Replies.{IsChangeReply};
+ghost use Rattle.path_entries.specs.fs_blobs.Blobs.{IsBlob};
 ghost use Rattle.path_contents.specs.Sparing.{IsSparingTwice, IsSparingAt};
-ghost use Rattle.path_walks.specs.Sights.{Finding};
+ghost use Rattle.path_entries.specs.path_walks.Sights.{Finding};
 
 use crate::changes::{resize_at, write_at};
 use crate::places::content_refusal;
-use blob_api::Blobs;
 use block_id::{BlockId, Fail};
-use fs_blobs::body_len;
 use fs_model::{FsError, MAX_GROWTH, MAX_MODE, Moment, Name, Reply};
+use path_entries::blob_api::Blobs;
+use path_entries::fs_blobs::body_len;
+use path_entries::path_walks::{Occupancy, Reached, done, reach};
 use path_entries::touched;
-use path_walks::{Occupancy, Reached, done, reach};
+use path_entries::tree_rules::is_too_long;
 use std::alloc::Global;
-use tree_rules::is_too_long;
 
 /// The bytes are written at `from`.
 pub fn write<B: Blobs>(

@@ -11,3 +11,6 @@ mod reading;
 pub use attributes::set_attributes;
 pub use content::{truncate, write};
 pub use reading::{list, read, read_link, stat};
+
+// Handed on to crates above, which needn't list them.
+pub use path_entries::{dir_blob, dir_entries, fs_blobs, tree_rules};

@@ -1,7 +1,7 @@
 -- A place that a change elsewhere leaves as it is.
 use Rattle.std.proofs.Common.{◌≡◌, ℕ, List, [], ◌∷◌, refl, sym, ◌∙◌}
 use Rattle.std.specs.FinMap.{get}
-use Rattle.blob_api.specs.BlobMap.{Id}
+use Rattle.path_walks.specs.blob_api.BlobMap.{Id}
 use Rattle.fs_model.specs.Tree.{Path, Tree, IsRooted}
 use Rattle.fs_model.proofs.LookUpLemmas.{look-walk, look-found}
 use Rattle.path_walks.specs.declared.spots.Place.{Place}

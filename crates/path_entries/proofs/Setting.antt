@@ -3,17 +3,17 @@ use Rattle.std.proofs.Common.{◌≡◌, ℕ, true, List, ◌∷◌, refl, sym, 
 use Rattle.std.specs.Prelude.{is_some, cond}
 use Rattle.std.specs.FinMap.{get, find, insert, put}
 use Rattle.std.specs.declared.option.Option.TheVariants.{Some}
-use Rattle.blob_api.specs.BlobMap.{Id, BlobHoldings}
+use Rattle.path_walks.specs.blob_api.BlobMap.{Id, BlobHoldings}
 use Rattle.fs_model.specs.declared.attr.Kind.TheVariants.{Directory}
 use Rattle.fs_model.specs.Tree.{Path, Row, name_cmp, is_folder, FitsKind}
 use Rattle.fs_model.proofs.TreeLemmas.{same_name}
-use Rattle.fs_blobs.specs.Headers.{blob}
-use Rattle.dir_entries.specs.Layout.{EntryTarget, body_of, IsListing}
-use Rattle.dir_blob.specs.Directories.{HasName, HasNameIn, HasEntries}
-use Rattle.forest.specs.Nodes.{Lists}
-use Rattle.forest.specs.Shows.{above, target_for, entries_at}
-use Rattle.forest.proofs.Shown.{IsFolderRow, folder_row, attributes_show}
-use Rattle.forest.specs.Showing.{IsShownBy}
+use Rattle.path_walks.specs.fs_blobs.Headers.{blob}
+use Rattle.path_walks.specs.dir_entries.Layout.{EntryTarget, body_of, IsListing}
+use Rattle.path_walks.specs.dir_blob.Directories.{HasName, HasNameIn, HasEntries}
+use Rattle.path_walks.specs.forest.Nodes.{Lists}
+use Rattle.path_walks.specs.forest.Shows.{above, target_for, entries_at}
+use Rattle.path_walks.proofs.forest_lemmas.Shown.{IsFolderRow, folder_row, attributes_show}
+use Rattle.path_walks.specs.forest.Showing.{IsShownBy}
 use Rattle.path_entries.specs.Entries.{Setting, SettingIn}
 use Rattle.path_walks.proofs.Nodes.{lists_at, directory_at, lists_with, read_is}
 

@@ -3,7 +3,7 @@ use Rattle.std.proofs.Common.{◌≡◌, ℕ, ◌≤◌, true, false, List, [], 
 use Rattle.std.specs.Prelude.{is_some}
 use Rattle.std.specs.FinMap.{get, insert}
 use Rattle.std.specs.declared.option.Option.TheVariants.{Some}
-use Rattle.blob_api.specs.BlobMap.{Id, BlobHoldings}
+use Rattle.path_walks.specs.blob_api.BlobMap.{Id, BlobHoldings}
 use Rattle.fs_model.specs.declared.attr.Attr.{Attr}
 use Rattle.fs_model.specs.declared.limits.TheConstants.{MAX_MODE}
 use Rattle.fs_model.specs.Instant.{Instant}
@@ -12,7 +12,7 @@ use Rattle.fs_model.specs.Step.{with_moments, touched}
 use Rattle.fs_model.proofs.TreeLemmas.{same_name, name_same, name_split, name_apart}
 use Rattle.fs_model.proofs.PutRows.{insert_found}
 use Rattle.fs_model.proofs.Touches.{touched-apart, touched-set, touched-again}
-use Rattle.forest.specs.Showing.{IsShownBy}
+use Rattle.path_walks.specs.forest.Showing.{IsShownBy}
 use Rattle.path_walks.specs.declared.spots.Folder.{Folder}
 use Rattle.path_walks.specs.Sights.{IsAt}
 use Rattle.path_entries.specs.Entries.{Setting}

@@ -2,11 +2,11 @@
 use Rattle.std.specs.Prelude.{◌≡◌, ℕ, List, ◌∷◌}
 use Rattle.std.specs.FinMap.{get, insert}
 use Rattle.std.specs.declared.option.Option.TheVariants.{Some}
-use Rattle.blob_api.specs.BlobMap.{Id, BlobMap, BlobHoldings}
+use Rattle.path_walks.specs.blob_api.BlobMap.{Id, BlobMap, BlobHoldings}
 use Rattle.fs_model.specs.Tree.{Path, Row, Tree, IsWellFormed, FitsKind}
-use Rattle.dir_entries.specs.Layout.{EntryTarget}
-use Rattle.forest.specs.Nodes.{Lists}
-use Rattle.forest.specs.Shows.{ShowsBy, entries_at}
+use Rattle.path_walks.specs.dir_entries.Layout.{EntryTarget}
+use Rattle.path_walks.specs.forest.Nodes.{Lists}
+use Rattle.path_walks.specs.forest.Shows.{ShowsBy, entries_at}
 
 -- a row that gets other attributes of its kind: the entry e says them
 pub record Setting {S : Type 0} (H : BlobHoldings S) (a : S) (dir : Id) (e : List ℕ × EntryTarget) : Type 0 where

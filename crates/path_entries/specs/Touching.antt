@@ -1,7 +1,7 @@
 -- What touching a directory needs.
-use Rattle.blob_api.specs.BlobMap.{Id, BlobMap, BlobHoldings}
+use Rattle.path_walks.specs.blob_api.BlobMap.{Id, BlobMap, BlobHoldings}
 use Rattle.fs_model.specs.Tree.{Path, Tree, upward}
-use Rattle.forest.specs.Shows.{ShowsBy}
+use Rattle.path_walks.specs.forest.Shows.{ShowsBy}
 use Rattle.path_walks.specs.declared.spots.Folder.{Folder}
 use Rattle.path_walks.specs.Sights.{IsAt}
 

@@ -1,17 +1,17 @@
 // The entry of a row.
 ghost use Rattle.std.specs.Prelude.{◌≡◌, ◌≤◌, ◌∷◌, IfOk};
 ghost use Rattle.std.specs.FinMap.{insert as with_key};
-ghost use Rattle.outcome.specs.Outcome.{Outcome};
-ghost use Rattle.dir_entries.specs.Layout.{entry_of};
-ghost use Rattle.forest.specs.Showing.{IsShownBy};
+ghost use Rattle.path_walks.specs.outcome.Outcome.{Outcome};
+ghost use Rattle.path_walks.specs.dir_entries.Layout.{entry_of};
+ghost use Rattle.path_walks.specs.forest.Showing.{IsShownBy};
 ghost use Rattle.path_entries.specs.Entries.{Setting, SettingIn};
 
-use blob_api::Blobs;
 use block_id::{BlockId, Fail, Memory};
-use dir_blob::{change, change_in};
-use dir_entries::Entry;
 use fs_model::{Attr, MAX_MODE, Moment, Name};
 use path_walks::Place;
+use path_walks::blob_api::Blobs;
+use path_walks::dir_blob::{change, change_in};
+use path_walks::dir_entries::Entry;
 use std::alloc::Global;
 
 /// A row gets other attributes of its kind.

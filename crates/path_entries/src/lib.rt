@@ -6,3 +6,7 @@ mod touches;
 
 pub use entries::{set_entry, set_entry_in, touched};
 pub use touches::{is_same, touch, touch_both};
+
+// Handed on to crates above, which needn't list them.
+pub use path_walks;
+pub use path_walks::{blob_api, dir_blob, dir_entries, fs_blobs, tree_rules};

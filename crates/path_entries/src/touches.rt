@@ -1,17 +1,17 @@
 // Directories whose children changed.
 ghost use Rattle.std.specs.Prelude.{◌≡◌, ◌≤◌};
 ghost use Rattle.std.specs.Ordering.{eq_by_cmp};
-ghost use Rattle.outcome.specs.Outcome.{Outcome};
-ghost use Rattle.blob_api.specs.BlobMap.{id_cmp};
+ghost use Rattle.path_walks.specs.outcome.Outcome.{Outcome};
+ghost use Rattle.path_walks.specs.blob_api.BlobMap.{id_cmp};
 ghost use Rattle.fs_model.specs.Tree.{upward};
 ghost use Rattle.fs_model.specs.Step.{touched as with_touched};
-ghost use Rattle.forest.specs.Showing.{IsShownBy};
+ghost use Rattle.path_walks.specs.forest.Showing.{IsShownBy};
 ghost use Rattle.path_entries.specs.Touching.{Touching, TouchingBoth};
 
 use crate::entries::{set_entry, touched};
-use blob_api::Blobs;
 use block_id::{BlockId, Fail};
 use fs_model::{MAX_MODE, Moment};
+use path_walks::blob_api::Blobs;
 use path_walks::{Folder, split_last};
 use std::alloc::Global;
 

@@ -1,17 +1,17 @@
 // A look from a row to another path.
 ghost use Rattle.std.specs.Prelude.{◌≡◌, ◌≤◌, IfOk};
-ghost use Rattle.outcome.specs.Outcome.{Outcome};
+ghost use Rattle.path_entries.specs.outcome.Outcome.{Outcome};
 ghost use Rattle.fs_model.specs.Tree.{upward};
-ghost use Rattle.path_walks.specs.Sights.{SightIs, HaveModes, sight_of};
+ghost use Rattle.path_entries.specs.path_walks.Sights.{SightIs, HaveModes, sight_of};
 ghost use Rattle.path_rows.specs.Onward.{Leaving};
 
-use blob_api::Blobs;
 use block_id::{BlockId, Fail, Why};
-use dir_entries::locate;
 use fs_model::{Attr, MAX_MODE, Name};
-use path_walks::{Occupancy, Place, Sight, look_at};
+use path_entries::blob_api::Blobs;
+use path_entries::dir_entries::locate;
+use path_entries::path_walks::{Occupancy, Place, Sight, look_at};
+use path_entries::tree_rules::same_names;
 use std::alloc::Global;
-use tree_rules::same_names;
 
 /// What stands under a name below a path. Where that is the row's own directory its body isn't read again.
 pub fn look_beside<B: Blobs>(

@@ -1,23 +1,23 @@
 // Changes of which rows the blobs show.
 ghost use Rattle.std.specs.Prelude.{◌≤◌, ◌∷◌};
 ghost use Rattle.std.specs.FinMap.{remove as without_key};
-ghost use Rattle.outcome.specs.Outcome.{Outcome};
+ghost use Rattle.path_entries.specs.outcome.Outcome.{Outcome};
 ghost use Rattle.fs_model.specs.Step.{moved_tree};
-ghost use Rattle.dir_entries.specs.Layout.{entry_of};
-ghost use Rattle.forest.specs.Midst.{moved_ids};
-ghost use Rattle.forest.specs.Showing.{IsShownBy};
+ghost use Rattle.path_entries.specs.dir_entries.Layout.{entry_of};
+ghost use Rattle.path_entries.specs.forest.Midst.{moved_ids};
+ghost use Rattle.path_entries.specs.forest.Showing.{IsShownBy};
 ghost use Rattle.path_rows.specs.Changes.{Dropping};
 ghost use Rattle.path_rows.specs.Moves.{Moving};
 
 use crate::made::Vacancy;
-use blob_api::Blobs;
 use block_id::Fail;
-use dir_blob::{insert_in, remove_in, rename};
-use dir_entries::Entry;
-use fs_blobs::set_parent;
 use fs_model::MAX_MODE;
+use path_entries::blob_api::Blobs;
+use path_entries::dir_blob::{insert_in, remove_in, rename};
+use path_entries::dir_entries::Entry;
+use path_entries::fs_blobs::set_parent;
 use path_entries::is_same;
-use path_walks::Occupancy;
+use path_entries::path_walks::Occupancy;
 use std::alloc::Global;
 
 /// A row with nothing below it goes: its entry, and its blob.

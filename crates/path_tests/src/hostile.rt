@@ -1,12 +1,12 @@
 // Blobs that show no tree: each command returns, with an error or a reply of its form.
 use crate::site::{Site, asked, empty_site, text_of};
 use block_id::{BlockId, Fail as Failure, Why};
-use dir_blob::insert;
-use dir_entries::Entry;
-use fs_blobs::{Header, new_blob};
 use fs_model::{Attr, FILE_MODE, Kind, Moment, Name};
 use std::alloc::Global;
 use std::test::Fail;
+use tree_commands::dir_blob::insert;
+use tree_commands::dir_entries::Entry;
+use tree_commands::fs_blobs::{Header, new_blob};
 
 /// A line, and its reply, or None where the blobs are found to be no tree.
 type Row = (&'static str, Option<&'static str>);

@@ -1,13 +1,13 @@
 // Blobs in memory that show a tree, and lines on it.
-use blob_api::Blobs;
 use block_id::{BlockId, Fail as Failure};
 use fs_model::{Command, Moment, Reply};
 use map_blobs::MapBlobs;
-use path_rows::empty_root;
+use map_blobs::blob_api::Blobs;
 use plain_tree::PlainTree;
 use script_text::{parse_line, print_reply};
 use std::alloc::Global;
 use std::test::Fail;
+use tree_commands::path_rows::empty_root;
 use tree_commands::perform_on_blobs;
 
 /// The blobs, and the root's id.

@@ -2,9 +2,9 @@
 use Rattle.std.proofs.Common.{◌≡◌, ℕ, List, [], ◌∷◌, subst}
 use Rattle.std.specs.Prelude.{Result, Ok}
 use Rattle.block_id.specs.declared.fail.Fail.{Fail}
-use Rattle.outcome.specs.Meanings.{Meanings, Lawful}
-use Rattle.outcome.specs.Outcome.{Outcome, then_, answered}
-use Rattle.blob_api.specs.BlobMap.{Id, BlobHoldings}
+use Rattle.dir_blob.specs.outcome.Meanings.{Meanings, Lawful}
+use Rattle.dir_blob.specs.outcome.Outcome.{Outcome, then_, answered}
+use Rattle.dir_blob.specs.blob_api.BlobMap.{Id, BlobHoldings}
 use Rattle.fs_model.specs.declared.error.FsError.{FsError}
 use Rattle.fs_model.specs.declared.error.FsError.TheVariants.{NoEntry}
 use Rattle.fs_model.specs.declared.reply.Reply.{Reply}

@@ -1,6 +1,6 @@
 -- What stands under a name, to be taken away or changed.
 use Rattle.std.proofs.Common.{◌≡◌, Bool, ◌∷◌, ◌∙◌, ap}
-use Rattle.blob_api.specs.BlobMap.{BlobHoldings}
+use Rattle.dir_blob.specs.blob_api.BlobMap.{BlobHoldings}
 use Rattle.fs_model.specs.declared.attr.Attr.{Attr}
 use Rattle.fs_model.specs.declared.attr.Kind.{Kind}
 use Rattle.fs_model.specs.Tree.{Path, is_directory}

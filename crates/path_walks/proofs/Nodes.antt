@@ -4,14 +4,14 @@ use Rattle.std.specs.Prelude.{T, All, is_some, not, ◌&&◌, nat_lt, nat_le}
 use Rattle.std.specs.FinMap.{get, find, put, entries, from_sorted, is_sorted, entries-from_sorted, get-from_sorted, same_map}
 use Rattle.std.specs.declared.option.Option.TheVariants.{Some}
 use Rattle.std.proofs.lemmas.List.Elements.{All-nil, All-cons, All-head, All-tail}
-use Rattle.blob_api.specs.declared.blobs.TheConstants.{MAX_BLOB}
-use Rattle.blob_api.specs.BlobMap.{Id, BlobMap, BlobHoldings}
+use Rattle.dir_blob.specs.blob_api.declared.blobs.TheConstants.{MAX_BLOB}
+use Rattle.dir_blob.specs.blob_api.BlobMap.{Id, BlobMap, BlobHoldings}
 use Rattle.fs_model.specs.declared.attr.Kind.{Kind}
 use Rattle.fs_model.specs.declared.attr.Kind.TheVariants.{Directory, File, Link}
 use Rattle.fs_model.specs.Tree.{Path, Row, Tree, directory_size, name_cmp, FitsKind}
-use Rattle.fs_blobs.specs.declared.header.TheConstants.{HEADER_LEN}
-use Rattle.fs_blobs.specs.Headers.{blob}
-use Rattle.dir_entries.specs.Layout.{EntryTarget, Listing, body_of, IsEntry, IsListing}
+use Rattle.dir_blob.specs.fs_blobs.declared.header.TheConstants.{HEADER_LEN}
+use Rattle.dir_blob.specs.fs_blobs.Headers.{blob}
+use Rattle.dir_blob.specs.dir_entries.Layout.{EntryTarget, Listing, body_of, IsEntry, IsListing}
 use Rattle.dir_blob.specs.Directories.{IsDirectory}
 use Rattle.forest.specs.Nodes.{Look, Lists, IsBodyOf}
 use Rattle.forest.specs.Shows.{above, target_for, entries_at, ShowsBy}

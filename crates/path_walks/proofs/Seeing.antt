@@ -4,7 +4,7 @@ use Rattle.std.specs.Prelude.{Vec}
 use Rattle.std.specs.declared.alloc.Global.{Global}
 use Rattle.std.specs.declared.option.Option.TheVariants.{Some}
 use Rattle.std.proofs.lemmas.Option.{same_Some, none-some}
-use Rattle.blob_api.specs.BlobMap.{Id, BlobMap, BlobHoldings}
+use Rattle.dir_blob.specs.blob_api.BlobMap.{Id, BlobMap, BlobHoldings}
 use Rattle.fs_model.specs.declared.error.FsError.{FsError}
 use Rattle.fs_model.specs.declared.error.FsError.TheVariants.{NoEntry}
 use Rattle.fs_model.specs.Tree.{Path, Tree, upward, IsRooted, root_row}

@@ -11,11 +11,11 @@ use Rattle.std.specs.Option.{option_map}
 use Rattle.std.proofs.lemmas.List.{length-append}
 use Rattle.std.proofs.lemmas.List.Concat.{flat_map-cons}
 use Rattle.std.proofs.lemmas.List.Elements.{All-head, All-tail}
-use Rattle.blob_api.specs.BlobMap.{Id}
+use Rattle.dir_blob.specs.blob_api.BlobMap.{Id}
 use Rattle.fs_model.specs.Tree.{Path, Row, Tree, name_cmp, children, entry_size, entries_size, directory_size}
 use Rattle.fs_model.proofs.TreeLemmas.{get-children, name_total, name_exact}
-use Rattle.dir_entries.specs.Layout.{EntryTarget, Listing, entry_text, body_of, IsEntry}
-use Rattle.dir_entries.proofs.Edits.{entry_length}
+use Rattle.dir_blob.specs.dir_entries.Layout.{EntryTarget, Listing, entry_text, body_of, IsEntry}
+use Rattle.dir_blob.proofs.dir_entries_lemmas.Edits.{entry_length}
 use Rattle.forest.specs.Shows.{target_for, entries_at}
 
 abbrev pub with_values : {K X Y : Type 0} → (X → Y) → List (K × X) → List (K × Y)

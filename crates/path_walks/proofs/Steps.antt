@@ -7,7 +7,7 @@ use Rattle.std.specs.declared.option.Option.{Option}
 use Rattle.std.specs.declared.option.Option.TheVariants.{None, Some}
 use Rattle.std.proofs.lemmas.Option.{same_Some, none-some}
 use Rattle.block_id.specs.declared.id.BlockId.{BlockId}
-use Rattle.blob_api.specs.BlobMap.{Id, BlobMap, BlobHoldings}
+use Rattle.dir_blob.specs.blob_api.BlobMap.{Id, BlobMap, BlobHoldings}
 use Rattle.fs_model.specs.declared.attr.Attr.{Attr}
 use Rattle.fs_model.specs.declared.attr.Kind.TheVariants.{Directory}
 use Rattle.fs_model.specs.declared.error.FsError.TheVariants.{NoEntry, NotDirectory}
@@ -15,8 +15,8 @@ use Rattle.fs_model.specs.Tree.{Path, Row, Tree, name_cmp, is_directory, upward}
 use Rattle.fs_model.specs.LookUp.{LookedUp, Found, Free, Bad, goes_on, walk}
 use Rattle.fs_model.specs.declared.error.FsError.{FsError}
 use Rattle.fs_model.proofs.PutRows.{below_file, below_none}
-use Rattle.dir_entries.specs.Layout.{EntryTarget, body_of}
-use Rattle.dir_entries.specs.Places.{target_of}
+use Rattle.dir_blob.specs.dir_entries.Layout.{EntryTarget, body_of}
+use Rattle.dir_blob.specs.dir_entries.Places.{target_of}
 use Rattle.dir_blob.specs.Directories.{IsDirectory}
 use Rattle.tree_rules.proofs.PathLemmas.{names_more}
 use Rattle.forest.specs.Shows.{target_for, ShowsBy}

@@ -2,9 +2,9 @@
 use Rattle.std.proofs.Common.{◌≡◌, Ok, Err, refl, sym, subst}
 use Rattle.std.specs.Prelude.{Result}
 use Rattle.block_id.specs.declared.fail.Fail.{Fail}
-use Rattle.outcome.specs.Meanings.{Meanings}
-use Rattle.outcome.specs.Outcome.{Outcome, passed, answered as answered_by}
-use Rattle.blob_api.specs.BlobMap.{Id, BlobMap, BlobHoldings}
+use Rattle.dir_blob.specs.outcome.Meanings.{Meanings}
+use Rattle.dir_blob.specs.outcome.Outcome.{Outcome, passed, answered as answered_by}
+use Rattle.dir_blob.specs.blob_api.BlobMap.{Id, BlobMap, BlobHoldings}
 use Rattle.fs_model.specs.declared.reply.Reply.{Reply}
 use Rattle.fs_model.specs.Tree.{Path, Tree}
 use Rattle.fs_model.specs.declared.reply.Reply.TheVariants.{Done}

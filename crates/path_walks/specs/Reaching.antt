@@ -2,7 +2,7 @@
 use Rattle.std.specs.Prelude.{◌≡◌, ◌≤◌, [], ◌∷◌}
 use Rattle.std.specs.declared.option.Option.{Option}
 use Rattle.std.specs.declared.option.Option.TheVariants.{None, Some}
-use Rattle.blob_api.specs.BlobMap.{Id}
+use Rattle.dir_blob.specs.blob_api.BlobMap.{Id}
 use Rattle.fs_model.specs.declared.error.FsError.{FsError}
 use Rattle.fs_model.specs.declared.error.FsError.TheVariants.{NoEntry}
 use Rattle.fs_model.specs.declared.limits.TheConstants.{MAX_MODE}

@@ -12,3 +12,8 @@ pub use reaching::{Reached, reach};
 pub use replies::done;
 pub use spots::{Folder, Occupancy, Place, Sight, Spot};
 pub use walks::{advance, look_at, walk};
+
+// Handed on to crates above, which needn't list them.
+pub use dir_blob;
+pub use dir_blob::{blob_api, dir_entries, fs_blobs};
+pub use tree_rules;

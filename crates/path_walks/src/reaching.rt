@@ -1,14 +1,14 @@
 // The row that a command changes.
 ghost use Rattle.std.specs.Prelude.{◌≡◌, IfOk};
-ghost use Rattle.outcome.specs.Outcome.{Outcome};
+ghost use Rattle.dir_blob.specs.outcome.Outcome.{Outcome};
 ghost use Rattle.fs_model.specs.Tree.{upward};
 ghost use Rattle.forest.specs.Showing.{BlobsShow};
 ghost use Rattle.path_walks.specs.Reaching.{ReachedIs, HaveRowModes};
 
 use crate::names::split_last;
 use crate::{Folder, Occupancy, Sight, look_at};
-use blob_api::Blobs;
 use block_id::{BlockId, Fail};
+use dir_blob::blob_api::Blobs;
 use fs_model::{FsError, Name};
 use std::alloc::Global;
 

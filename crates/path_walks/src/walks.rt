@@ -1,13 +1,13 @@
 // Along the names of a path.
 ghost use Rattle.std.specs.Prelude.{◌≡◌, ◌∷◌, IfOk};
-ghost use Rattle.outcome.specs.Outcome.{Outcome};
+ghost use Rattle.dir_blob.specs.outcome.Outcome.{Outcome};
 ghost use Rattle.fs_model.specs.Tree.{upward};
 ghost use Rattle.forest.specs.Showing.{BlobsShow};
 ghost use Rattle.path_walks.specs.Sights.{SpotIs, SightIs, HasMode, HaveModes, Walking};
 
 use crate::{Place, Sight, Spot};
-use blob_api::Blobs;
 use block_id::{BlockId, Fail};
+use dir_blob::blob_api::Blobs;
 use dir_blob::{find_in, find_target};
 use fs_model::{FsError, Kind, Name};
 use std::alloc::Global;

@@ -6,13 +6,13 @@ ghost use Rattle.fs_model.specs.Tree.{parent, upward, IsWellFormed};
 ghost use Rattle.fs_model.specs.LookUp.{look};
 ghost use Rattle.fs_model.specs.Step as step;
 ghost use Rattle.plain_tree.specs.Answers.{IsAnswer};
-ghost use Rattle.tree_rules.specs.Changes.{changed_by};
+ghost use Rattle.row_table.specs.tree_rules.Changes.{changed_by};
 
 use crate::look::{file_of, row_of};
 use block_id::Memory;
 use fs_model::{Attr, FsError, Moment, Name, Reply};
 use row_table::Table;
-use tree_rules::{AttrChange, changed, is_too_long};
+use row_table::tree_rules::{AttrChange, changed, is_too_long};
 
 /// Sets attributes.
 pub fn set_attributes(table: &mut Table, names: &[Name], change: AttrChange, now: Moment) -> Reply

@@ -17,8 +17,8 @@ use crate::edit::{has_child, is_directory};
 use crate::look::{LookUp, look_up, row_of};
 use block_id::Memory;
 use fs_model::{Attr, FsError, Kind, MAX_ENTRIES, Moment, Name, Reply};
+use row_table::tree_rules::{is_above, same_names};
 use row_table::{Table, name_size};
-use tree_rules::{is_above, same_names};
 
 /// The bytes of the entry that leaves `to`'s parent.
 fn size_left(from: &[Name], to: &[Name]) -> u64

@@ -17,9 +17,9 @@ use fs_model::{
     ByteText, Command, DIRECTORY_MODE, FILE_MODE, Kind, LINK_MODE, Moment, Name, Reply,
 };
 use row_table::Table;
+use row_table::tree_rules::{AttrChange, new_attr};
 use std::alloc::Global;
 use std::marker::Model;
-use tree_rules::{AttrChange, new_attr};
 
 /// A table of rows that is a tree.
 #[derive(Drop)]

@@ -4,9 +4,9 @@ use Rattle.std.specs.Prelude.{Bool}
 use Rattle.std.specs.declared.option.Option.{Option}
 use Rattle.fs_model.specs.Instant.{Instant}
 use Rattle.fs_model.specs.Tree.{Tree, empty_tree}
-use Rattle.line_io.specs.Reading.{Reading, coming, fresh}
-use Rattle.line_io.specs.Streams.{Stream}
-use Rattle.line_io.proofs.Flow.{coming-nil}
+use Rattle.session_lines.specs.line_io.Reading.{Reading, coming, fresh}
+use Rattle.session_lines.specs.line_io.Streams.{Stream}
+use Rattle.session_lines.proofs.line_io_lemmas.Flow.{coming-nil}
 use Rattle.answers.specs.Hosts.{Ran}
 use Rattle.answers.specs.Sessions.{Exchange, Next, violated, latest, IsSession}
 use Rattle.session_lines.specs.Asking.{generated}

@@ -2,7 +2,7 @@
 use Rattle.std.specs.Prelude.{◌≡◌, ◌⊎◌, ℕ, List, length}
 use Rattle.fs_model.specs.Instant.{Instant}
 use Rattle.fs_model.specs.Tree.{Tree, empty_tree}
-use Rattle.line_io.specs.Streams.{Stream, Untouched}
+use Rattle.session_lines.specs.line_io.Streams.{Stream, Untouched}
 use Rattle.answers.specs.declared.answer.Answer.{Answer}
 use Rattle.answers.specs.Sessions.{Exchange, IsSession}
 use Rattle.answers.specs.Summaries.{summary_of, text_of_summary}

@@ -1,15 +1,15 @@
 // Runs on a new plain tree.
 ghost use Rattle.std.specs.Prelude.{◌≡◌, ◌≤◌};
-ghost use Rattle.line_io.specs.Streams.{stream_of};
+ghost use Rattle.session_lines.specs.line_io.Streams.{stream_of};
 ghost use Rattle.plain_trials.specs.Runs.{Tried, GeneratedOnPlain, status_of};
 
 use crate::trial::Trial;
 use answers::TextBuffer;
 use fs_model::Moment;
-use line_io::LineReader;
 use outside::{Sink, Source};
 use plain_tree::PlainTree;
 use run_status::Status;
+use session_lines::line_io::LineReader;
 use session_lines::{End, answer_generated, answer_lines};
 use std::alloc::Global;
 

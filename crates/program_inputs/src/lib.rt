@@ -8,3 +8,7 @@ mod record_use;
 mod streams;
 
 pub use inputs::Inputs;
+
+// Handed on to crates above, which needn't list them.
+pub use real_folders;
+pub use real_host::host_folder;

@@ -4,10 +4,10 @@ use Rattle.std.specs.declared.option.Option.{Option}
 use Rattle.std.specs.declared.option.Option.TheVariants.{None, Some}
 use Rattle.run_histories.specs.cryfs_shell.Streams.{Streams}
 use Rattle.fs_model.specs.Instant.{Instant}
-use Rattle.line_io.specs.Streams.{Stream}
+use Rattle.run_histories.specs.line_io.Streams.{Stream}
 use Rattle.outside.specs.Trace.{Call}
 use Rattle.outside.specs.declared.keeper.Keeper.{Ghosts as KeeperGhosts}
-use Rattle.real_folders.specs.Adapters.{FolderVaultState, FolderKeeperState, kept_in}
+use Rattle.program_inputs.specs.real_folders.Adapters.{FolderVaultState, FolderKeeperState, kept_in}
 use Rattle.run_status.specs.declared.ended.Ended.{Ended}
 use Rattle.run_status.specs.declared.status.Status.{Status}
 use Rattle.run_status.specs.declared.storage.Storage.{Storage}

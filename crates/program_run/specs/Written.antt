@@ -2,15 +2,15 @@
 use Rattle.std.specs.Prelude.{◌≡◌, ℕ, Bool, true, false, List, ◌++◌}
 use Rattle.std.specs.declared.option.Option.{Option}
 use Rattle.std.specs.declared.option.Option.TheVariants.{Some}
-use Rattle.answers.specs.Sessions.{Exchange, IsSession}
-use Rattle.config_file.specs.Settings.{Settings}
+use Rattle.run_histories.specs.answers.Sessions.{Exchange, IsSession}
+use Rattle.run_histories.specs.config_file.Settings.{Settings}
 use Rattle.fs_model.specs.Instant.{Instant}
 use Rattle.fs_model.specs.Tree.{Tree}
-use Rattle.session_lines.specs.Asking.{said_in}
+use Rattle.run_histories.specs.session_lines.Asking.{said_in}
 use Rattle.run_histories.specs.session_runs.Runs.{Outside, IsFounded}
-use Rattle.shell_words.specs.declared.form.Form.{Form}
-use Rattle.shell_words.specs.declared.form.Form.TheVariants.{Shell, Command}
-use Rattle.shell_words.specs.Forms.{form_of}
+use Rattle.program_inputs.specs.shell_words.declared.form.Form.{Form}
+use Rattle.program_inputs.specs.shell_words.declared.form.Form.TheVariants.{Shell, Command}
+use Rattle.program_inputs.specs.shell_words.Forms.{form_of}
 use Rattle.run_histories.specs.mount_core.Showing.{ShowsFiles}
 
 -- what was written behind the old bytes are the texts of the answers of a session of the plain tree from this tree on; some of them may be cut off at the end

@@ -4,3 +4,7 @@
 mod run;
 
 pub use run::run_program;
+
+// Handed on to crates above, which needn't list them.
+pub use program_inputs;
+pub use real_streams;

@@ -9,10 +9,10 @@ ghost use Rattle.run_histories.specs.Lists.{AreRunCalls};
 ghost use Rattle.program_run.specs.Written.{WritesSession};
 ghost use Rattle.program_run.specs.Program.{folder_calls, folder_faults, folder_names, folder_record, at_first, at_last, untold, told, program_call};
 
-use host_folder::Folder;
 use program_inputs::Inputs;
+use program_inputs::host_folder::Folder;
+use program_inputs::real_folders::{FolderKeeper, FolderVault};
 use rand_core::Rng;
-use real_folders::{FolderKeeper, FolderVault};
 use real_streams::{ReaderSource, WriterSink};
 use run_histories::{Request, run_call};
 use run_status::{Ended, Storage};

@@ -2,10 +2,10 @@
 use call_log::{ByteLog, CallLog};
 use fs_model::Moment;
 use memory_folder::MemoryFolder;
-use program_inputs::Inputs;
+use program_run::program_inputs::Inputs;
+use program_run::real_streams::{ReaderSource, WriterSink};
 use program_run::run_program;
 use rand_pcg::Pcg32;
-use real_streams::{ReaderSource, WriterSink};
 use run_status::{Status, Storage};
 use std::alloc::{AllocError, Global};
 use std::fs::{self, File};

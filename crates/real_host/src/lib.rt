@@ -11,3 +11,6 @@ mod text;
 mod way;
 
 pub use host::RealHost;
+
+// Handed on to crates above, which needn't list them.
+pub use host_folder;

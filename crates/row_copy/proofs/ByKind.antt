@@ -9,7 +9,7 @@ use Rattle.fs_model.specs.declared.attr.Kind.{Kind}
 use Rattle.fs_model.specs.declared.attr.Kind.TheVariants.{Directory, File, Link}
 use Rattle.fs_model.specs.declared.command.Command.{Command}
 use Rattle.fs_model.specs.declared.command.Command.TheVariants as command
-use Rattle.host_folder.specs.Folders.{HostRow, HostPath, HostTree, directory_row, kind_in}
+use Rattle.copy_rules.specs.host_folder.Folders.{HostRow, HostPath, HostTree, directory_row, kind_in}
 use Rattle.copy_rules.specs.declared.copied.Totals.{Totals}
 use Rattle.copy_rules.specs.Ends.{counted}
 use Rattle.copy_rules.specs.Importing.{writes, pieces_of}

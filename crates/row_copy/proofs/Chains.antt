@@ -4,7 +4,7 @@ use Rattle.std.specs.declared.result.Result.{Result}
 use Rattle.std.specs.declared.result.Result.TheVariants.{Ok, Err}
 use Rattle.fs_model.specs.declared.command.Command.{Command}
 use Rattle.fs_model.specs.declared.reply.Reply.TheVariants.{Error}
-use Rattle.host_folder.specs.Folders.{HostPath}
+use Rattle.copy_rules.specs.host_folder.Folders.{HostPath}
 use Rattle.copy_rules.specs.Questions.{Question, Asking, LawfulAsker, AreDone, commands_of}
 use Rattle.copy_rules.proofs.Asking.{asked_none, asked_then, answered_done, done_append, commands_append, last_append}
 use Rattle.row_copy.specs.declared.stop.Stop.{Stop}

@@ -7,7 +7,7 @@ use Rattle.std.specs.declared.result.Result.{Result}
 use Rattle.std.specs.declared.result.Result.TheVariants.{Ok, Err}
 use Rattle.fs_model.specs.declared.attr.Kind.{Kind}
 use Rattle.fs_model.specs.declared.attr.Kind.TheVariants.{Directory, File, Link}
-use Rattle.host_folder.specs.Folders.{HostPath, HostTree, IsHostTree, IsMade, directory_row, kind_in}
+use Rattle.copy_rules.specs.host_folder.Folders.{HostPath, HostTree, IsHostTree, IsMade, directory_row, kind_in}
 use Rattle.copy_rules.specs.declared.copied.Totals.{Totals}
 use Rattle.copy_rules.specs.Questions.{Asking, LawfulAsker}
 use Rattle.copy_rules.proofs.Asking.{asked_none}

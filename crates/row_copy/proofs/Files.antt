@@ -9,7 +9,7 @@ use Rattle.std.proofs.lemmas.Option.{same_Some}
 use Rattle.fs_model.specs.declared.attr.Kind.TheVariants.{File}
 use Rattle.fs_model.specs.declared.command.Command.{Command}
 use Rattle.fs_model.specs.declared.command.Command.TheVariants as command
-use Rattle.host_folder.specs.Folders.{HostRow, HostPath, HostTree}
+use Rattle.copy_rules.specs.host_folder.Folders.{HostRow, HostPath, HostTree}
 use Rattle.copy_rules.specs.declared.copied.Totals.{Totals}
 use Rattle.copy_rules.specs.Ends.{counted}
 use Rattle.copy_rules.specs.Importing.{writes, pieces_of, cut, joined, AreFull}

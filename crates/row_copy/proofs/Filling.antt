@@ -6,7 +6,7 @@ use Rattle.std.specs.declared.option.Option.{Option}
 use Rattle.std.proofs.lemmas.List.{length-take, length-drop, length-append, take_all, drop-drop, take-append-le, take_at, take-take}
 use Rattle.std.proofs.lemmas.Option.{same_Some}
 use Rattle.fs_model.specs.declared.attr.Kind.TheVariants.{File}
-use Rattle.host_folder.specs.Folders.{HostRow, HostPath, HostTree, IsFileAt}
+use Rattle.copy_rules.specs.host_folder.Folders.{HostRow, HostPath, HostTree, IsFileAt}
 use Rattle.row_copy.specs.Reading.{IsFilled, IsFull}
 use Rattle.row_copy.specs.Rows.{IsPiece}
 

@@ -6,7 +6,7 @@ use Rattle.std.specs.declared.option.Option.{Option}
 use Rattle.std.specs.declared.result.Result.TheVariants.{Err}
 use Rattle.fs_model.specs.declared.attr.Kind.TheVariants.{Link}
 use Rattle.fs_model.specs.declared.command.Command.TheVariants as command
-use Rattle.host_folder.specs.Folders.{HostPath, HostTree}
+use Rattle.copy_rules.specs.host_folder.Folders.{HostPath, HostTree}
 use Rattle.copy_rules.specs.declared.copied.Totals.{Totals}
 use Rattle.copy_rules.specs.Questions.{Asking, LawfulAsker}
 use Rattle.row_copy.specs.declared.stop.Stop.TheVariants as stop

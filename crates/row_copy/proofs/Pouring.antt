@@ -7,8 +7,8 @@ use Rattle.std.specs.declared.result.Result.TheVariants.{Ok, Err}
 use Rattle.std.proofs.lemmas.List.{length-take, length-append, take_all, take-append-drop, drop_at}
 use Rattle.std.proofs.lemmas.Option.{same_Some}
 use Rattle.fs_model.specs.declared.attr.Kind.TheVariants.{File}
-use Rattle.host_folder.specs.Folders.{HostRow, HostPath, HostTree, IsMade, IsAppended}
-use Rattle.host_folder.proofs.Inserts.{here, again}
+use Rattle.copy_rules.specs.host_folder.Folders.{HostRow, HostPath, HostTree, IsMade, IsAppended}
+use Rattle.copy_rules.proofs.host_folder_lemmas.Inserts.{here, again}
 use Rattle.copy_rules.specs.Exporting.{IsRead}
 use Rattle.copy_rules.specs.Questions.{Asking, LawfulAsker}
 use Rattle.copy_rules.proofs.Asking.{asked_none}

@@ -10,7 +10,7 @@ use Rattle.fs_model.specs.declared.error.FsError.TheVariants.{Invalid}
 use Rattle.fs_model.specs.declared.reply.Reply.{Reply}
 use Rattle.fs_model.specs.declared.reply.Reply.TheVariants.{Done, Rows, Info, Target, Content, Error}
 use Rattle.fs_model.specs.Fitting.{is_target}
-use Rattle.host_folder.specs.Folders.{HostPath, HostTree}
+use Rattle.copy_rules.specs.host_folder.Folders.{HostPath, HostTree}
 use Rattle.copy_rules.specs.declared.asker.Stopped.{Stopped}
 use Rattle.copy_rules.specs.Ends.{path_of}
 use Rattle.copy_rules.specs.Exporting.{AreServed, IsReader, IsServed, LastRead, Refuses, Tells}

@@ -8,7 +8,7 @@ use Rattle.outside.specs.Causes.{RoseBy}
 use Rattle.outside.specs.declared.vault.GetFail.{GetFail}
 use Rattle.outside.specs.declared.vault.GetFail.TheVariants.{Memory, Failed}
 use Rattle.fs_model.specs.declared.attr.Kind.TheVariants.{File}
-use Rattle.host_folder.specs.Folders.{HostPath, HostTree}
+use Rattle.copy_rules.specs.host_folder.Folders.{HostPath, HostTree}
 
 -- the bytes of the file from this place on stand first in the piece, so many of them
 pub record IsFilled (t : HostTree) (p : HostPath) (from len : ℕ) (piece : List ℕ) : Type 0 where

@@ -11,7 +11,7 @@ use Rattle.fs_model.specs.declared.command.Command.{Command}
 use Rattle.fs_model.specs.declared.reply.ListRow.{ListRow}
 use Rattle.fs_model.specs.declared.reply.Reply.{Reply}
 use Rattle.fs_model.specs.Step.{by_kind}
-use Rattle.host_folder.specs.Folders.{HostRow, HostPath, HostTree, IsHostTree, AreRowsOf, RowsRise, IsMade, kind_in}
+use Rattle.copy_rules.specs.host_folder.Folders.{HostRow, HostPath, HostTree, IsHostTree, AreRowsOf, RowsRise, IsMade, kind_in}
 use Rattle.copy_rules.specs.declared.asker.Stopped.{Stopped}
 use Rattle.copy_rules.specs.declared.copied.Totals.{Totals}
 use Rattle.copy_rules.specs.Ends.{path_of, up_to}

@@ -13,7 +13,7 @@ use Rattle.fs_model.specs.declared.command.Command.TheVariants as command
 use Rattle.fs_model.specs.declared.reply.Reply.{Reply}
 use Rattle.fs_model.specs.declared.reply.Reply.TheVariants.{Error}
 use Rattle.fs_model.specs.declared.error.FsError.{FsError}
-use Rattle.host_folder.specs.Folders.{HostRow, HostPath, HostTree, IsHostTree, kind_in}
+use Rattle.copy_rules.specs.host_folder.Folders.{HostRow, HostPath, HostTree, IsHostTree, kind_in}
 use Rattle.copy_rules.specs.declared.asker.Stopped.{Stopped}
 use Rattle.copy_rules.specs.declared.copied.Totals.{Totals}
 use Rattle.copy_rules.specs.Ends.{LastWas, IsFront, counted}

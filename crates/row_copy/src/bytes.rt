@@ -11,9 +11,9 @@ use crate::paths::copy_path;
 use crate::place::RowPlace;
 use crate::stop::Stop;
 use block_id::{Failed, Memory};
+use copy_rules::host_folder::Folder;
 use copy_rules::{Asker, Totals};
 use fs_model::{ByteText, Command, Path};
-use host_folder::Folder;
 use outside::GetFail;
 use std::alloc::Global;
 

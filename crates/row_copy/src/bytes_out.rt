@@ -9,7 +9,7 @@ use crate::place::RowPlace;
 use crate::replies::ask_piece;
 use crate::stop::Stop;
 use copy_rules::Asker;
-use host_folder::Folder;
+use copy_rules::host_folder::Folder;
 use std::alloc::Global;
 
 /// No file goes on beyond this place.

@@ -23,3 +23,7 @@ pub use rows::{copy_row, make_file};
 pub use rows_out::row_out;
 pub use stop::Stop;
 pub use totals::{count, no_totals};
+
+// Handed on to crates above, which needn't list them.
+pub use copy_rules;
+pub use copy_rules::host_folder;

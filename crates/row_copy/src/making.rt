@@ -1,12 +1,12 @@
 // Calls on a folder that is copied into.
 ghost use Rattle.std.specs.Prelude.{◌≡◌, ◌⊎◌, ℕ, OnOk, OnErr, take};
-ghost use Rattle.host_folder.specs.Folders.{HasTarget, IsMade, IsAppended};
+ghost use Rattle.copy_rules.specs.host_folder.Folders.{HasTarget, IsMade, IsAppended};
 ghost use Rattle.row_copy.specs.Rows.{FaultsBy};
 ghost use Rattle.row_copy.specs.Reads.{NeverAsked};
 
 use crate::stop::Stop;
+use copy_rules::host_folder::Folder;
 use fs_model::{ByteText, Kind, Path};
-use host_folder::Folder;
 use outside::GetFail;
 use std::alloc::Global;
 

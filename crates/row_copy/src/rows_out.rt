@@ -10,9 +10,9 @@ use crate::place::RowPlace;
 use crate::replies::ask_target;
 use crate::stop::Stop;
 use crate::totals::count_row;
+use copy_rules::host_folder::Folder;
 use copy_rules::{Asker, Totals};
 use fs_model::{ByteText, Kind};
-use host_folder::Folder;
 use std::alloc::Global;
 
 /// Makes a directory of the folder.

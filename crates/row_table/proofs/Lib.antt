@@ -6,3 +6,5 @@ pub mod ItemLemmas
 pub mod EditLemmas
 pub mod PairLemmas
 pub mod MovedEntries
+-- Handed on to crates above, which name their lemmas so and needn't list them.
+pub use Rattle.tree_rules.proofs as tree_rules_lemmas

@@ -13,3 +13,6 @@ mod table;
 pub use block_id::Memory;
 pub use folder::name_size;
 pub use table::Table;
+
+// Handed on to crates above, which needn't list them.
+pub use tree_rules;

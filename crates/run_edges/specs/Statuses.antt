@@ -1,13 +1,13 @@
 -- Errors and ends of sessions as statuses.
 use Rattle.std.specs.Prelude.{Bool, true, false, Result}
 use Rattle.std.specs.declared.result.Result.TheVariants.{Ok, Err}
-use Rattle.config_file.specs.declared.error.ConfigError.TheVariants as config_error
+use Rattle.mount_tower.specs.config_file.declared.error.ConfigError.TheVariants as config_error
 use Rattle.mount_tower.specs.declared.error.OpenError.{OpenError}
 use Rattle.mount_tower.specs.declared.error.OpenError.TheVariants as open_error
 use Rattle.session_lines.specs.declared.end.End.{End}
 use Rattle.session_lines.specs.declared.end.End.TheVariants as line_end
-use Rattle.session_saver.specs.declared.saver.SyncError.{SyncError}
-use Rattle.session_saver.specs.declared.saver.SyncError.TheVariants as sync_error
+use Rattle.mount_tower.specs.session_saver.declared.saver.SyncError.{SyncError}
+use Rattle.mount_tower.specs.session_saver.declared.saver.SyncError.TheVariants as sync_error
 use Rattle.run_status.specs.declared.status.Status.{Status}
 use Rattle.run_status.specs.declared.status.Status.TheVariants as status
 

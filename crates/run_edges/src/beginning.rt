@@ -1,13 +1,13 @@
 // What each session begins with.
 ghost use Rattle.std.specs.Prelude.{◌≤◌, List, ℕ, IfOk, IfErr};
-ghost use Rattle.line_io.specs.Streams.{stream_of};
+ghost use Rattle.passwords.specs.line_io.Streams.{stream_of};
 ghost use Rattle.passwords.specs.Passwords.{PasswordRead, PasswordUnread};
 
-use answers::TextBuffer;
-use line_io::{LineReader, MAX_LINE};
 use outside::Source;
+use passwords::line_io::{LineReader, MAX_LINE};
 use passwords::{copy_line, read_password};
 use run_status::Status;
+use session_lines::answers::TextBuffer;
 use std::alloc::Global;
 
 /// The password, the reader that has taken its line, and the memory for texts.

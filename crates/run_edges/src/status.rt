@@ -2,11 +2,11 @@
 ghost use Rattle.std.specs.Prelude.{◌≡◌};
 ghost use Rattle.run_edges.specs.Statuses.{opening_status, closing_status, session_status};
 
-use config_file::ConfigError;
 use mount_tower::OpenError;
+use mount_tower::config_file::ConfigError;
+use mount_tower::session_saver::SyncError;
 use run_status::Status;
 use session_lines::End;
-use session_saver::SyncError;
 
 /// The status of a file system that wasn't opened or made. A record that is marked, or is of another file system, is a
 /// violation.

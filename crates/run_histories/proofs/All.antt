@@ -5,11 +5,11 @@ use Rattle.std.specs.declared.option.Option.{Option}
 use Rattle.std.specs.declared.option.Option.TheVariants.{None, Some}
 use Rattle.std.specs.declared.result.Result.TheVariants.{Ok, Err}
 use Rattle.block_id.specs.declared.id.BlockId.{BlockId}
-use Rattle.config_file.specs.Settings.{Settings}
-use Rattle.shell_words.specs.declared.create_options.CreateOptions.{CreateOptions}
+use Rattle.cryfs_shell.specs.config_file.Settings.{Settings}
+use Rattle.cryfs_shell.specs.shell_words.declared.create_options.CreateOptions.{CreateOptions}
 use Rattle.cryfs_shell.specs.setup_texts.CreateText.{Reports}
 use Rattle.fs_model.specs.Tree.{Tree, empty_tree}
-use Rattle.held_blocks.specs.Standing.{records}
+use Rattle.cryfs_shell.specs.held_blocks.Standing.{records}
 use Rattle.cryfs_shell.specs.mount_tower.Drawing.{drawn}
 use Rattle.cryfs_shell.specs.mount.Making.{Created as Made}
 use Rattle.cryfs_shell.specs.mount_tower.Making.{IsUnchanged, new_settings}
@@ -19,11 +19,11 @@ use Rattle.outside.specs.Trace.{Call}
 use Rattle.outside.specs.declared.keeper.Keeper.{Ghosts as KeeperGhosts}
 use Rattle.run_status.specs.declared.status.Status.TheVariants.{Done}
 use Rattle.cryfs_shell.specs.session_runs.Runs.{Outside, outside_of, OutsideStandsFor}
-use Rattle.shell_words.specs.declared.form.Form.{Form}
-use Rattle.shell_words.specs.declared.form.Form.TheVariants.{Create}
-use Rattle.shell_words.specs.Forms.{form_of}
+use Rattle.cryfs_shell.specs.shell_words.declared.form.Form.{Form}
+use Rattle.cryfs_shell.specs.shell_words.declared.form.Form.TheVariants.{Create}
+use Rattle.cryfs_shell.specs.shell_words.Forms.{form_of}
 use Rattle.cryfs_shell.specs.mount_core.Showing.{ShowsFiles}
-use Rattle.histories.specs.Histories.{Run, before_of, after_of, GoesOnFrom, AreRuns, end_of, was_violated, RunsCompose}
+use Rattle.cryfs_shell.specs.histories.Histories.{Run, before_of, after_of, GoesOnFrom, AreRuns, end_of, was_violated, RunsCompose}
 use Rattle.cryfs_shell.specs.Doing.{Did}
 use Rattle.cryfs_shell.specs.Kinds.{opens}
 use Rattle.cryfs_shell.proofs.Statuses.{opening_is_no}

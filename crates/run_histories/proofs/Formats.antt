@@ -6,12 +6,12 @@ use Rattle.std.specs.declared.option.Option.TheVariants.{Some}
 use Rattle.std.specs.declared.result.Result.TheVariants.{Ok, Err}
 use Rattle.std.proofs.lemmas.List.{append_cancel_left}
 use Rattle.std.proofs.lemmas.Option.{same_Some}
-use Rattle.answers.specs.Texts.{text_of_answer}
+use Rattle.cryfs_shell.specs.answers.Texts.{text_of_answer}
 use Rattle.block_id.specs.declared.id.BlockId.{BlockId}
-use Rattle.line_io.specs.Streams.{Untouched}
+use Rattle.cryfs_shell.specs.line_io.Streams.{Untouched}
 use Rattle.cryfs_shell.specs.mount.Formats.{TakesFrom}
 use Rattle.cryfs_shell.specs.mount_calls.Migrating.{KeepsNewest}
-use Rattle.cryfs_shell.proofs.mount_calls.Newest.{newest_takes}
+use Rattle.cryfs_shell.proofs.mount_calls_lemmas.Newest.{newest_takes}
 use Rattle.cryfs_shell.specs.mount_migrating.Migrating.{answer_of}
 use Rattle.cryfs_shell.specs.mount_migrating.declared.error.MigrateError.{MigrateError}
 use Rattle.cryfs_shell.specs.mount_migrating.declared.error.MigrateError.TheVariants as error
@@ -20,22 +20,22 @@ use Rattle.outside.specs.Streams.{appends}
 use Rattle.outside.specs.Trace.{Call}
 use Rattle.outside.specs.declared.keeper.Keeper.{Ghosts as KeeperGhosts}
 use Rattle.run_status.specs.declared.status.Status.TheVariants.{Done}
-use Rattle.session_lines.specs.Driven.{Reported}
-use Rattle.session_lines.specs.declared.end.End.{End}
-use Rattle.session_lines.specs.declared.end.End.TheVariants as line_end
+use Rattle.cryfs_shell.specs.session_lines.Driven.{Reported}
+use Rattle.cryfs_shell.specs.session_lines.declared.end.End.{End}
+use Rattle.cryfs_shell.specs.session_lines.declared.end.End.TheVariants as line_end
 use Rattle.cryfs_shell.specs.session_runs.Runs.{Outside}
 use Rattle.cryfs_shell.specs.setup_texts.CreateText.{Reports}
 use Rattle.cryfs_shell.specs.setup_texts.MigrateText.{count_text, migrated_text}
-use Rattle.shell_words.specs.declared.create_options.CreateOptions.{CreateOptions}
-use Rattle.shell_words.specs.declared.form.Form.{Form}
-use Rattle.shell_words.specs.declared.form.Form.TheVariants.{Create, Migrate}
-use Rattle.shell_words.specs.Forms.{form_of}
+use Rattle.cryfs_shell.specs.shell_words.declared.create_options.CreateOptions.{CreateOptions}
+use Rattle.cryfs_shell.specs.shell_words.declared.form.Form.{Form}
+use Rattle.cryfs_shell.specs.shell_words.declared.form.Form.TheVariants.{Create, Migrate}
+use Rattle.cryfs_shell.specs.shell_words.Forms.{form_of}
 use Rattle.cryfs_shell.specs.mount_core.Showing.{ShowsFiles}
 use Rattle.cryfs_shell.specs.Doing.{Did}
 use Rattle.cryfs_shell.specs.Kinds.{opens}
 use Rattle.cryfs_shell.proofs.Statuses.{opening_is_no}
 use Rattle.cryfs_shell.proofs.Sessions.{one_unread, unread_is_no}
-use Rattle.histories.specs.Histories.{Run, session, quiet, examined, migrated, before_of, after_of, IsRun}
+use Rattle.cryfs_shell.specs.histories.Histories.{Run, session, quiet, examined, migrated, before_of, after_of, IsRun}
 use Rattle.run_histories.specs.Calls.{RunCall, IsRunCall}
 use Rattle.run_histories.specs.Formats.{HasCreated, HasMigrated}
 use Rattle.run_histories.specs.Lists.{AreRunCalls, left_by}

@@ -7,29 +7,29 @@ use Rattle.std.specs.declared.result.Result.TheVariants.{Ok, Err}
 use Rattle.block_id.specs.declared.id.BlockId.{BlockId}
 use Rattle.cryfs_shell.specs.check_runs.Judging.{is_bad}
 use Rattle.cryfs_shell.specs.check_runs.Running.{RanCheck}
-use Rattle.cryfs_shell.proofs.check_runs.Leaving.{examined_run}
-use Rattle.cryfs_shell.proofs.check_runs.SurveyLeaving.{quiet_run}
-use Rattle.held_blocks.specs.Standing.{records}
-use Rattle.line_io.specs.Lines.{first_line}
-use Rattle.line_io.specs.Streams.{Untouched}
-use Rattle.cryfs_shell.proofs.mount.Formats.{equal_same}
+use Rattle.cryfs_shell.proofs.check_runs_lemmas.Leaving.{examined_run}
+use Rattle.cryfs_shell.proofs.check_runs_lemmas.SurveyLeaving.{quiet_run}
+use Rattle.cryfs_shell.specs.held_blocks.Standing.{records}
+use Rattle.cryfs_shell.specs.line_io.Lines.{first_line}
+use Rattle.cryfs_shell.specs.line_io.Streams.{Untouched}
+use Rattle.cryfs_shell.proofs.mount_lemmas.Formats.{equal_same}
 use Rattle.cryfs_shell.specs.mount.Making.{StaysThere}
 use Rattle.cryfs_shell.specs.mount_tower.declared.error.OpenError.{OpenError}
 use Rattle.cryfs_shell.specs.mount_core.Standing.{IsKeptMarked}
 use Rattle.outside.specs.Trace.{Call}
 use Rattle.outside.specs.declared.keeper.Keeper.{Ghosts as KeeperGhosts}
-use Rattle.passwords.specs.Passwords.{IsNextPassword, PasswordUnread, PasswordsUnread}
+use Rattle.cryfs_shell.specs.passwords.Passwords.{IsNextPassword, PasswordUnread, PasswordsUnread}
 use Rattle.cryfs_shell.specs.session_runs.Openings.{AreUncalled, IsUnread, IsUnopened}
 use Rattle.run_status.specs.declared.status.Status.{Status}
 use Rattle.run_status.specs.declared.status.Status.TheVariants.{Done}
 use Rattle.cryfs_shell.specs.session_runs.Runs.{Outside, outside_of, OutsideStandsFor, IsQuietRun}
 use Rattle.cryfs_shell.specs.shell_sessions.Sessions.{Session}
-use Rattle.shell_words.specs.declared.form.Form.{Form}
-use Rattle.shell_words.specs.declared.form.Form.TheVariants.{Trial, TrialGenerate, Create, Info, Passwd, Migrate, Shell, Generate, Command, Import, Export, Put, Get, Check, Survey}
-use Rattle.shell_words.specs.Forms.{form_of}
+use Rattle.cryfs_shell.specs.shell_words.declared.form.Form.{Form}
+use Rattle.cryfs_shell.specs.shell_words.declared.form.Form.TheVariants.{Trial, TrialGenerate, Create, Info, Passwd, Migrate, Shell, Generate, Command, Import, Export, Put, Get, Check, Survey}
+use Rattle.cryfs_shell.specs.shell_words.Forms.{form_of}
 use Rattle.cryfs_shell.specs.mount_core.Showing.{ShowsFiles}
-use Rattle.histories.specs.Histories.{Run, session, quiet, examined, migrated, before_of, after_of, IsRun, GoesOnFrom}
-use Rattle.answers.specs.Sessions.{is_violation}
+use Rattle.cryfs_shell.specs.histories.Histories.{Run, session, quiet, examined, migrated, before_of, after_of, IsRun, GoesOnFrom}
+use Rattle.cryfs_shell.specs.answers.Sessions.{is_violation}
 use Rattle.cryfs_shell.specs.cryfs_setup.Migrate.{RanMigrate}
 use Rattle.cryfs_shell.specs.mount_migrating.Migrating.{told}
 use Rattle.cryfs_shell.specs.Clauses.{IsRefusingStatus, NoFalseAlarm, TellsFaults}

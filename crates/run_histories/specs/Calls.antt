@@ -2,7 +2,7 @@
 use Rattle.std.specs.Prelude.{◌≡◌, ℕ, true, false, List}
 use Rattle.std.specs.declared.option.Option.{Option}
 use Rattle.fs_model.specs.Instant.{Instant}
-use Rattle.held_blocks.specs.Standing.{records}
+use Rattle.cryfs_shell.specs.held_blocks.Standing.{records}
 use Rattle.cryfs_shell.specs.mount_core.Standing.{IsKeptMarked}
 use Rattle.outside.specs.Trace.{Call}
 use Rattle.outside.specs.declared.keeper.Keeper.{Ghosts as KeeperGhosts}
@@ -10,7 +10,7 @@ use Rattle.run_status.specs.declared.ended.Ended.{Ended}
 use Rattle.run_status.specs.declared.status.Status.{Status}
 use Rattle.cryfs_shell.specs.session_runs.Drawing.{DrawsAs}
 use Rattle.cryfs_shell.specs.session_runs.Runs.{Outside, outside_of}
-use Rattle.shell_words.specs.Forms.{form_of}
+use Rattle.cryfs_shell.specs.shell_words.Forms.{form_of}
 use Rattle.cryfs_shell.specs.Clauses.{IsRefusedRun, NoFalseAlarm, KeepsTree, TellsFaults, StatusSays}
 use Rattle.cryfs_shell.specs.Doing.{Did}
 use Rattle.cryfs_shell.specs.Hosts.{IsStill}

@@ -8,9 +8,9 @@ use Rattle.outside.specs.declared.keeper.Keeper.{Ghosts as KeeperGhosts}
 use Rattle.run_status.specs.declared.status.Status.TheVariants.{Done}
 use Rattle.cryfs_shell.specs.session_runs.Runs.{Outside}
 use Rattle.cryfs_shell.specs.setup_texts.MigrateText.{count_text}
-use Rattle.shell_words.specs.declared.create_options.CreateOptions.{CreateOptions}
-use Rattle.shell_words.specs.declared.form.Form.TheVariants.{Create, Migrate}
-use Rattle.shell_words.specs.Forms.{form_of}
+use Rattle.cryfs_shell.specs.shell_words.declared.create_options.CreateOptions.{CreateOptions}
+use Rattle.cryfs_shell.specs.shell_words.declared.form.Form.TheVariants.{Create, Migrate}
+use Rattle.cryfs_shell.specs.shell_words.Forms.{form_of}
 use Rattle.run_histories.specs.Calls.{RunCall, IsRunCall}
 use Rattle.run_histories.specs.Lists.{AreRunCalls, left_by}
 

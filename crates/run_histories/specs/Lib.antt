@@ -6,3 +6,7 @@ pub use Rattle.cryfs_shell.specs as cryfs_shell
 pub use Rattle.cryfs_shell.specs.mount_core as mount_core
 pub use Rattle.cryfs_shell.specs.session_runs as session_runs
 pub use Rattle.cryfs_shell.specs.shell_sessions as shell_sessions
+pub use Rattle.cryfs_shell.specs.answers as answers
+pub use Rattle.cryfs_shell.specs.config_file as config_file
+pub use Rattle.cryfs_shell.specs.line_io as line_io
+pub use Rattle.cryfs_shell.specs.session_lines as session_lines

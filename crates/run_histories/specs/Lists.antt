@@ -2,13 +2,13 @@
 use Rattle.std.specs.Prelude.{◌≡◌, ◌≢◌, ◌⊎◌, ◌||◌, ℕ, true, false, Bool, List, [], ◌∷◌, is_some}
 use Rattle.std.specs.declared.option.Option.{Option}
 use Rattle.std.specs.declared.option.Option.TheVariants.{Some}
-use Rattle.answers.specs.Sessions.{violated}
-use Rattle.config_file.specs.Settings.{Settings}
-use Rattle.shell_words.specs.declared.create_options.CreateOptions.{CreateOptions}
+use Rattle.cryfs_shell.specs.answers.Sessions.{violated}
+use Rattle.cryfs_shell.specs.config_file.Settings.{Settings}
+use Rattle.cryfs_shell.specs.shell_words.declared.create_options.CreateOptions.{CreateOptions}
 use Rattle.fs_model.specs.Tree.{Tree, empty_tree}
-use Rattle.held_blocks.specs.Standing.{records}
-use Rattle.line_io.specs.Lines.{first_line}
-use Rattle.line_io.specs.Streams.{Untouched}
+use Rattle.cryfs_shell.specs.held_blocks.Standing.{records}
+use Rattle.cryfs_shell.specs.line_io.Lines.{first_line}
+use Rattle.cryfs_shell.specs.line_io.Streams.{Untouched}
 use Rattle.cryfs_shell.specs.mount_tower.Drawing.{drawn}
 use Rattle.cryfs_shell.specs.mount_tower.Making.{IsUnchanged, new_settings}
 use Rattle.cryfs_shell.specs.mount_core.Standing.{IsKeptMarked}
@@ -18,14 +18,14 @@ use Rattle.cryfs_shell.specs.session_runs.Openings.{HasPassword}
 use Rattle.run_status.specs.Statuses.{first_of}
 use Rattle.run_status.specs.declared.status.Status.{Status}
 use Rattle.run_status.specs.declared.status.Status.TheVariants.{Done}
-use Rattle.session_lines.specs.declared.end.End.{End}
+use Rattle.cryfs_shell.specs.session_lines.declared.end.End.{End}
 use Rattle.cryfs_shell.specs.session_runs.Runs.{Outside, OutsideStandsFor}
-use Rattle.run_edges.specs.Statuses.{session_status}
-use Rattle.shell_words.specs.declared.form.Form.{Form}
-use Rattle.shell_words.specs.declared.form.Form.TheVariants.{Create}
-use Rattle.shell_words.specs.Forms.{form_of}
+use Rattle.cryfs_shell.specs.run_edges.Statuses.{session_status}
+use Rattle.cryfs_shell.specs.shell_words.declared.form.Form.{Form}
+use Rattle.cryfs_shell.specs.shell_words.declared.form.Form.TheVariants.{Create}
+use Rattle.cryfs_shell.specs.shell_words.Forms.{form_of}
 use Rattle.cryfs_shell.specs.mount_core.Showing.{ShowsFiles}
-use Rattle.histories.specs.Histories.{Run, session, quiet, examined, migrated, before_of, after_of, IsRun, IsUnforgedRun, GoesOnFrom, end_of, Follow, EndsWith}
+use Rattle.cryfs_shell.specs.histories.Histories.{Run, session, quiet, examined, migrated, before_of, after_of, IsRun, IsUnforgedRun, GoesOnFrom, end_of, Follow, EndsWith}
 use Rattle.cryfs_shell.specs.Clauses.{IsRefusingStatus, NoFalseAlarm, TellsFaults}
 use Rattle.cryfs_shell.specs.History.{Comes, Judges, Meets}
 use Rattle.cryfs_shell.specs.Kinds.{opens, is_session, is_check, is_migration}

@@ -3,14 +3,14 @@ ghost use Rattle.std.specs.Prelude.{map, [], ◌∷◌};
 ghost use Rattle.std.specs.String.{string_bytes};
 ghost use Rattle.cryfs_shell.specs.Hosts.{host_of};
 ghost use Rattle.cryfs_shell.specs.Streams.{streams_of};
-ghost use Rattle.line_io.specs.Streams.{stream_of};
+ghost use Rattle.cryfs_shell.specs.line_io.Streams.{stream_of};
 ghost use Rattle.cryfs_shell.specs.session_runs.Runs.{outside_of};
 ghost use Rattle.run_histories.specs.Calls.{IsRunCall, call_of};
 ghost use Rattle.run_histories.specs.Lists.{AreRunCalls};
 
+use cryfs_shell::host_folder::Folder;
+use cryfs_shell::listing::Listing;
 use cryfs_shell::{Ended, Request, Storage, run};
-use host_folder::Folder;
-use listing::Listing;
 use outside::{Keeper, Sink, Source, Vault};
 use rand_core::Rng;
 use std::alloc::Global;

@@ -2,8 +2,8 @@
 ghost use Rattle.run_histories.specs.Formats.{EachLeavesNewest, EveryListKeepsNewest};
 ghost use Rattle.run_histories.specs.Lists.{OneRun, EveryListOfRuns, EveryListFromCreate};
 
-use histories::runs_compose;
-use listing::Listing;
+use cryfs_shell::histories::runs_compose;
+use cryfs_shell::listing::Listing;
 use outside::{Keeper, Vault};
 
 /// Each call of `run` whose words open a file system is a run under the password in its input's first line: a session with its

@@ -10,3 +10,6 @@ mod waiting;
 
 pub use sealed_store::{SEAL_LEN, SealedStore};
 pub use seen::Seen;
+
+// Handed on to crates above, which needn't list them.
+pub use redo_vault;

@@ -10,7 +10,7 @@ use Rattle.line_io.specs.Lines.{lines}
 use Rattle.line_io.specs.Reading.{Line, EndsLine, TookNoLine, total}
 use Rattle.line_io.specs.Streams.{Cut, HasFailed, TookMost}
 use Rattle.line_io.proofs.Flow.{appends-append, appends-nil}
-use Rattle.script_text.specs.Grammar.{command_of}
+use Rattle.answers.specs.script_text.Grammar.{command_of}
 use Rattle.answers.specs.declared.answer.Answer.{Answer}
 use Rattle.answers.specs.Hosts.{Hosting, Ran}
 use Rattle.answers.specs.Sessions.{Exchange}

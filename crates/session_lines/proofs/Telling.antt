@@ -7,8 +7,8 @@ use Rattle.std.specs.Prelude.{Err}
 use Rattle.fs_model.specs.Instant.{Instant}
 use Rattle.fs_model.specs.declared.error.FsError.TheVariants.{BadLine}
 use Rattle.line_io.specs.Lines.{kept}
-use Rattle.script_text.specs.Grammar.{command_of}
-use Rattle.script_text.proofs.Lines.{command_of-long}
+use Rattle.answers.specs.script_text.Grammar.{command_of}
+use Rattle.answers.proofs.script_text_lemmas.Lines.{command_of-long}
 use Rattle.answers.specs.declared.answer.Answer.{Answer}
 use Rattle.answers.specs.declared.answer.Answer.TheVariants.{Reply as Replied, Memory, Spent, FaultDirectory, FaultState, Violation, Refused}
 use Rattle.answers.specs.Hosts.{Hosting, LawfulHost}

@@ -5,7 +5,7 @@ use Rattle.std.specs.declared.option.Option.TheVariants.{None, Some}
 use Rattle.outside.specs.Streams.{appends}
 use Rattle.line_io.specs.Lines.{lines, IsUnbroken}
 use Rattle.line_io.specs.Streams.{Cut}
-use Rattle.script_text.specs.Grammar.{command_of}
+use Rattle.answers.specs.script_text.Grammar.{command_of}
 use Rattle.workload.specs.Generated.{generated_of}
 use Rattle.answers.specs.Sessions.{Asked, Exchange}
 use Rattle.answers.specs.Texts.{text_of_answer}

@@ -5,7 +5,7 @@ use Rattle.fs_model.specs.Instant.{Instant}
 use Rattle.outside.specs.Streams.{appends, Ends}
 use Rattle.line_io.specs.Reading.{Reading, Line, TookNoLine, coming, remaining}
 use Rattle.line_io.specs.Streams.{Stream, HasFailed, TookMost, Cut}
-use Rattle.script_text.specs.Grammar.{command_of}
+use Rattle.answers.specs.script_text.Grammar.{command_of}
 use Rattle.answers.specs.declared.answer.Answer.{Answer}
 use Rattle.answers.specs.Hosts.{Hosting, Ran}
 use Rattle.answers.specs.Sessions.{Exchange}

@@ -12,3 +12,8 @@ pub use end::End;
 pub use generate::answer_generated;
 pub use lines::answer_lines;
 pub use single::answer_single;
+
+// Handed on to crates above, which needn't list them.
+pub use answers;
+pub use answers::script_text;
+pub use line_io;

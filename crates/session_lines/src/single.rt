@@ -7,12 +7,12 @@ ghost use Rattle.session_lines.specs.Driven.{AnsweredOne};
 
 use crate::end::End;
 use crate::tell::tell_line;
+use answers::script_text::MAX_LINE;
 use answers::{Host, TextBuffer};
 use block_id::Failed;
 use fs_model::Moment;
 use line_io::write_all;
 use outside::Sink;
-use script_text::MAX_LINE;
 use std::alloc::Global;
 
 /// Answers one line, and no more.

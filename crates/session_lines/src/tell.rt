@@ -3,12 +3,12 @@ ghost use Rattle.std.specs.Prelude.{◌≡◌, List, ℕ, false};
 ghost use Rattle.std.specs.declared.option.Option.{Option};
 ghost use Rattle.std.specs.Option.{option_copied};
 ghost use Rattle.line_io.specs.Lines.{kept};
-ghost use Rattle.script_text.specs.Grammar.{command_of};
+ghost use Rattle.answers.specs.script_text.Grammar.{command_of};
 ghost use Rattle.session_lines.specs.Driven.{TellsLine};
 
+use answers::script_text::{LineError, parse_line};
 use answers::{Answer, Host, TextBuffer};
 use fs_model::{FsError, Moment, Reply};
-use script_text::{LineError, parse_line};
 use std::alloc::Global;
 
 /// The answer to a line of what doesn't refuse.

@@ -7,31 +7,31 @@ use Rattle.std.proofs.lemmas.Option.{same_Some}
 use Rattle.std.specs.List.{AllByRecursion}
 use Rattle.std.specs.declared.option.Option.{Option}
 use Rattle.std.specs.declared.option.Option.TheVariants.{None, Some}
-use Rattle.answers.specs.declared.answer.Answer.{Answer}
-use Rattle.answers.specs.Hosts.{Ran}
-use Rattle.answers.specs.Sessions.{Asked, Exchange, is_violation}
+use Rattle.run_edges.specs.answers.declared.answer.Answer.{Answer}
+use Rattle.run_edges.specs.answers.Hosts.{Ran}
+use Rattle.run_edges.specs.answers.Sessions.{Asked, Exchange, is_violation}
 use Rattle.fs_model.specs.Instant.{Instant}
-use Rattle.held_blocks.specs.Standing.{listed}
-use Rattle.held_blocks.specs.StoreLaws.{has-keys}
-use Rattle.local_state.proofs.Records.{one_reading}
-use Rattle.local_state.specs.Record.{PlainState, IsRecord}
+use Rattle.mount.specs.held_blocks.Standing.{listed}
+use Rattle.mount.specs.held_blocks.StoreLaws.{has-keys}
+use Rattle.mount.proofs.local_state_lemmas.Records.{one_reading}
+use Rattle.mount.specs.local_state.Record.{PlainState, IsRecord}
 use Rattle.mount.specs.Mounts.{Unopened}
 use Rattle.mount.specs.Sealing.{Draw, AreVectors, HoldsSealed, View, view_of, view_closed, IsSealedFor, PutsSealed, AddsSealed, SealsFresh, IsKeptList, OpensSealed}
 use Rattle.mount.specs.SealingLaws.{draws_then, holds_marked, holds_more, sealed_then, seals_then, vectors_then}
 use Rattle.mount.specs.declared.mount.Halted.{Halted}
 use Rattle.mount.specs.declared.mount.Mount.{Mount}
-use Rattle.mount_core.specs.Keeping.{IsSameOrRecord}
-use Rattle.mount_tower.specs.Identities.{KeepsRecord}
-use Rattle.mount_tower.specs.Tower.{Cached, held_in, tower_durables}
+use Rattle.mount.specs.mount_core.Keeping.{IsSameOrRecord}
+use Rattle.run_edges.specs.mount_tower.Identities.{KeepsRecord}
+use Rattle.run_edges.specs.mount_tower.Tower.{Cached, held_in, tower_durables}
 use Rattle.outside.specs.Changes.{FileChanges, change_at}
 use Rattle.outside.specs.Trace.{Call, block, config, put, got, removed}
 use Rattle.outside.specs.declared.keeper.Keeper.{Ghosts as KeeperGhosts}
 use Rattle.rand_core.specs.Stream.{Stream}
-use Rattle.session_saver.specs.declared.saver.SyncError.{SyncError}
-use Rattle.store_api.proofs.Draws.{later_same}
-use Rattle.store_api.specs.Content.{Id}
-use Rattle.store_api.specs.Holdings.{has_id}
-use Rattle.mount_core.specs.Showing.{Showing}
+use Rattle.mount.specs.session_saver.declared.saver.SyncError.{SyncError}
+use Rattle.mount.proofs.store_api_lemmas.Draws.{later_same}
+use Rattle.mount.specs.store_api.Content.{Id}
+use Rattle.mount.specs.store_api.Holdings.{has_id}
+use Rattle.mount.specs.mount_core.Showing.{Showing}
 use Rattle.session_runs.specs.Answering.{store_of, kept_of, MountAnswers, mount_hosting, drawing_hosting}
 use Rattle.session_runs.specs.Drawing.{WaitsIn, KnowsId, IsSealedSince, PutsSince, AddsSince, DrawsVectors, DrawsNoNames}
 use Rattle.session_runs.specs.Runs.{Outside, outside_of}

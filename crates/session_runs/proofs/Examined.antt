@@ -1,6 +1,6 @@
 -- A run of a check that opened no file system.
 use Rattle.std.proofs.Common.{List, ℕ, false, refl}
-use Rattle.mount_core.specs.Showing.{Showing}
+use Rattle.mount.specs.mount_core.Showing.{Showing}
 use Rattle.session_runs.specs.Runs.{Outside, IsExaminedRun, IsQuietRun}
 
 pub quiet_examined : (shows : Showing) (password : List ℕ) (before after : Outside) → IsQuietRun shows password before after → IsExaminedRun shows password before after false

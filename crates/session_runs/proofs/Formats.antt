@@ -4,10 +4,10 @@ use Rattle.std.specs.Prelude.{Result}
 use Rattle.std.specs.declared.option.Option.{Option}
 use Rattle.outside.specs.Trace.{Call}
 use Rattle.outside.specs.declared.keeper.Keeper.{Ghosts as KeeperGhosts}
-use Rattle.session_saver.specs.declared.saver.SyncError.{SyncError}
-use Rattle.mount_core.specs.Showing.{Showing}
-use Rattle.mount_core.specs.Formats.{StaysLeast}
-use Rattle.mount_tower.specs.Tower.{tower_durables}
+use Rattle.mount.specs.session_saver.declared.saver.SyncError.{SyncError}
+use Rattle.mount.specs.mount_core.Showing.{Showing}
+use Rattle.mount.specs.mount_core.Formats.{StaysLeast}
+use Rattle.run_edges.specs.mount_tower.Tower.{tower_durables}
 use Rattle.mount.specs.declared.mount.Mount.{Mount}
 use Rattle.mount.specs.Formats.{TakesSame}
 use Rattle.mount.specs.Tower.{tower}

@@ -6,21 +6,21 @@ use Rattle.std.proofs.lemmas.Bool.{or_parts}
 use Rattle.fs_model.specs.Instant.{Instant}
 use Rattle.fs_model.specs.Tree.{Tree}
 use Rattle.outside.specs.Causes.{RoseBy}
-use Rattle.store_api.specs.Durables.{Identity}
+use Rattle.mount.specs.store_api.Durables.{Identity}
 use Rattle.outside.specs.Going.{goes_on_same, goes_on_onward}
 use Rattle.outside.specs.Trace.{Call}
 use Rattle.outside.specs.declared.keeper.Keeper.{Ghosts as KeeperGhosts}
-use Rattle.answers.specs.declared.answer.Answer.{Answer}
-use Rattle.answers.specs.declared.answer.Answer.TheVariants.{Reply as Replied, Memory, Spent, FaultDirectory, FaultState, Violation, Refused}
-use Rattle.answers.specs.Sessions.{Asked, Exchange, Next, IsSession, IsKeptPoint, is_violation, is_sync, is_synced, latest, violated, state_faults, all_state_faults}
-use Rattle.held_blocks.specs.Standing.{records}
-use Rattle.mount_core.specs.Answers.{is_structure, OnSpent}
-use Rattle.mount_core.specs.Configuring.{ConfigAnswered}
-use Rattle.mount_core.specs.Showing.{Showing}
-use Rattle.mount_core.specs.Standing.{IsKeptMarked, Left}
+use Rattle.run_edges.specs.answers.declared.answer.Answer.{Answer}
+use Rattle.run_edges.specs.answers.declared.answer.Answer.TheVariants.{Reply as Replied, Memory, Spent, FaultDirectory, FaultState, Violation, Refused}
+use Rattle.run_edges.specs.answers.Sessions.{Asked, Exchange, Next, IsSession, IsKeptPoint, is_violation, is_sync, is_synced, latest, violated, state_faults, all_state_faults}
+use Rattle.mount.specs.held_blocks.Standing.{records}
+use Rattle.mount.specs.mount_core.Answers.{is_structure, OnSpent}
+use Rattle.mount.specs.mount_core.Configuring.{ConfigAnswered}
+use Rattle.mount.specs.mount_core.Showing.{Showing}
+use Rattle.mount.specs.mount_core.Standing.{IsKeptMarked, Left}
 use Rattle.mount.specs.declared.mount.Mount.{Mount}
 use Rattle.mount.specs.Tower.{tower, TowerStands}
-use Rattle.mount_tower.specs.Tower.{tower_holdings, tower_durables}
+use Rattle.run_edges.specs.mount_tower.Tower.{tower_holdings, tower_durables}
 use Rattle.mount.proofs.Formats.{stays_at}
 use Rattle.mount.proofs.Same.{same_mount}
 use Rattle.session_runs.specs.Answering.{store_of, calls_of, forgeries_of, lies_of, keeper_faults, version_of, kept_of, LineAnswered, MountAnswers}

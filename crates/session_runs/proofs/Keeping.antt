@@ -1,21 +1,21 @@
 -- What lines and a closing leave as kept.
 use Rattle.std.proofs.Common.{◌≡◌, ◌⊎◌, ◌≤◌, ◌+◌, ◌∙◌, ℕ, Bool, true, false, List, [], length, refl, sym, subst, inl, inr, arith}
 use Rattle.std.specs.declared.option.Option.{Option}
-use Rattle.answers.specs.Sessions.{Exchange, is_violation}
-use Rattle.answers.specs.declared.answer.Answer.{Answer}
-use Rattle.held_blocks.specs.Standing.{listed, records}
-use Rattle.local_state.specs.Record.{PlainState}
-use Rattle.mount_core.specs.Keeping.{IsSameOrRecord, LineKeeps}
-use Rattle.mount_core.specs.Standing.{IsKeptMarked}
-use Rattle.mount_tower.specs.Identities.{KeepsRecord}
-use Rattle.mount_tower.specs.Opening.{IsLoaded, AreKnown, KeepsVersions}
-use Rattle.mount_tower.specs.Tower.{Cached, held_in, tower_durables, tower_holdings}
+use Rattle.run_edges.specs.answers.Sessions.{Exchange, is_violation}
+use Rattle.run_edges.specs.answers.declared.answer.Answer.{Answer}
+use Rattle.mount.specs.held_blocks.Standing.{listed, records}
+use Rattle.mount.specs.local_state.Record.{PlainState}
+use Rattle.mount.specs.mount_core.Keeping.{IsSameOrRecord, LineKeeps}
+use Rattle.mount.specs.mount_core.Standing.{IsKeptMarked}
+use Rattle.run_edges.specs.mount_tower.Identities.{KeepsRecord}
+use Rattle.run_edges.specs.mount_tower.Opening.{IsLoaded, AreKnown, KeepsVersions}
+use Rattle.run_edges.specs.mount_tower.Tower.{Cached, held_in, tower_durables, tower_holdings}
 use Rattle.outside.specs.Changes.{FileChanges}
 use Rattle.outside.specs.Trace.{Call}
 use Rattle.outside.specs.declared.keeper.Keeper.{Ghosts as KeeperGhosts}
-use Rattle.session_saver.specs.Saving.{IsRecordOf}
-use Rattle.session_saver.specs.declared.saver.Saver.{Saver}
-use Rattle.store_api.specs.Durables.{with_mark}
+use Rattle.mount.specs.session_saver.Saving.{IsRecordOf}
+use Rattle.mount.specs.session_saver.declared.saver.Saver.{Saver}
+use Rattle.mount.specs.store_api.Durables.{with_mark}
 use Rattle.session_runs.specs.Causes.{VersionsSince}
 use Rattle.session_runs.specs.Passing.{KeptAfter}
 

@@ -3,23 +3,23 @@ use Rattle.std.proofs.Common.{◌≡◌, ◌⊎◌, ◌||◌, ◌∙◌, ℕ, Bo
 use Rattle.std.specs.Prelude.{Ok, Err}
 use Rattle.std.specs.declared.option.Option.{Option}
 use Rattle.std.specs.declared.option.Option.TheVariants.{None, Some}
-use Rattle.answers.specs.declared.answer.Answer.{Answer}
-use Rattle.answers.specs.declared.answer.Answer.TheVariants.{Reply as Replied, Memory, Spent, FaultDirectory, FaultState, Violation, Refused}
-use Rattle.answers.specs.Sessions.{Asked, Exchange, is_violation, violated}
+use Rattle.run_edges.specs.answers.declared.answer.Answer.{Answer}
+use Rattle.run_edges.specs.answers.declared.answer.Answer.TheVariants.{Reply as Replied, Memory, Spent, FaultDirectory, FaultState, Violation, Refused}
+use Rattle.run_edges.specs.answers.Sessions.{Asked, Exchange, is_violation, violated}
 use Rattle.fs_model.specs.declared.command.Command.{Command}
 use Rattle.fs_model.specs.declared.command.Command.TheVariants.{List as Listed, Stat, Readlink, Read, Sync}
 use Rattle.fs_model.specs.declared.reply.Reply.TheVariants.{Done, Rows, Info, Target, Content, Error}
 use Rattle.fs_model.specs.Instant.{Instant}
 use Rattle.fs_model.specs.Laws.{OnlyLooks}
-use Rattle.held_blocks.specs.Held.{Held}
-use Rattle.held_blocks.specs.Reads.{AllReads, WentOnByReads}
+use Rattle.mount.specs.held_blocks.Held.{Held}
+use Rattle.mount.specs.held_blocks.Reads.{AllReads, WentOnByReads}
 use Rattle.mount.specs.declared.mount.Mount.{Mount}
-use Rattle.mount_tower.specs.Tower.{Cached, held_in, trace_in, tower_meanings}
-use Rattle.mount_tower.specs.TowerLaws.{tower_lawful}
-use Rattle.mount_core.specs.Answers.{is_done_answer, OnReply}
+use Rattle.run_edges.specs.mount_tower.Tower.{Cached, held_in, trace_in, tower_meanings}
+use Rattle.run_edges.specs.mount_tower.TowerLaws.{tower_lawful}
+use Rattle.mount.specs.mount_core.Answers.{is_done_answer, OnReply}
 use Rattle.outside.specs.Trace.{Call}
 use Rattle.outside.specs.declared.keeper.Keeper.{Ghosts as KeeperGhosts}
-use Rattle.mount_core.specs.Showing.{Showing, is_reader, is_sync, IsReplyTo}
+use Rattle.mount.specs.mount_core.Showing.{Showing, is_reader, is_sync, IsReplyTo}
 use Rattle.mount.proofs.Same.{same_mount}
 use Rattle.session_runs.specs.Answering.{store_of, MountAnswers}
 use Rattle.session_runs.specs.Resting.{AsksNoChange, AreIdle, IsGet, AreGets, OnlyGot, Rested}

@@ -4,8 +4,8 @@ use Rattle.std.specs.declared.option.Option.{Option}
 use Rattle.outside.specs.Trace.{Call}
 use Rattle.outside.specs.declared.keeper.Keeper.{Ghosts as KeeperGhosts}
 use Rattle.rand_core.specs.Stream.{Stream}
-use Rattle.answers.specs.Hosts.{Hosting}
-use Rattle.mount_core.specs.Showing.{Showing}
+use Rattle.run_edges.specs.answers.Hosts.{Hosting}
+use Rattle.mount.specs.mount_core.Showing.{Showing}
 use Rattle.mount.specs.declared.mount.Mount.{Mount}
 use Rattle.mount.specs.Mounts.{IsReady}
 use Rattle.mount.specs.Sealing.{SealsFresh, view_of}

@@ -5,15 +5,15 @@ use Rattle.std.specs.FinMap as fin
 use Rattle.std.specs.List.{AllByRecursion}
 use Rattle.std.specs.declared.option.Option.{Option}
 use Rattle.std.specs.declared.option.Option.TheVariants.{None, Some}
-use Rattle.local_state.specs.Record.{PlainState}
+use Rattle.mount.specs.local_state.Record.{PlainState}
 use Rattle.mount.specs.Sealing.{Draw, AreDraws, AreVectors, IsDrawnFor}
-use Rattle.mount_tower.specs.Identities.{KeepsRecord}
+use Rattle.run_edges.specs.mount_tower.Identities.{KeepsRecord}
 use Rattle.outside.specs.Changes.{FileChanges, change_at}
 use Rattle.outside.specs.Trace.{Call, block, config, put, got, removed}
 use Rattle.rand_core.specs.Stream.{Stream}
 use Rattle.session_runs.specs.Runs.{Outside}
-use Rattle.store_api.specs.Content.{Id}
-use Rattle.store_api.specs.Holdings.{has_id}
+use Rattle.mount.specs.store_api.Content.{Id}
+use Rattle.mount.specs.store_api.Holdings.{has_id}
 
 -- a record is kept, marked or not, by whose list these bytes wait for the block
 pub record WaitsIn (kept : Option (List ℕ)) (id : Id) (bytes : List ℕ) : Type 0 where

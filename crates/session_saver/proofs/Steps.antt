@@ -1,7 +1,7 @@
 -- What is kept, and what it stands for, after the steps of a sync.
 use Rattle.std.proofs.Common.{◌≡◌, ◌⊎◌, ◌≤◌, ℕ, Bool, true, false, List, [], length, Option, Some, refl, sym, ◌∙◌, ap, subst, inl, inr, arith}
 use Rattle.std.specs.Prelude.{Result, Ok, Err, IsErrOf}
-use Rattle.outcome.specs.Meanings.{Meanings}
+use Rattle.store_api.specs.outcome.Meanings.{Meanings}
 use Rattle.outside.specs.Causes.{RoseBy}
 use Rattle.outside.specs.Going.{GoesOn, goes_on_same, goes_on_writes}
 use Rattle.outside.specs.Writes.{after_writes}

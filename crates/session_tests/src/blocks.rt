@@ -1,10 +1,10 @@
 // How many block files there are after each session, and how often they are asked for.
 
 use crate::sessions::{FIRST, is_answered_long, lines_of_the_first};
-use memory_outside::{Event, MemoryVault};
 use outside::FileName;
 use std::alloc::Global;
 use std::test::Fail;
+use test_systems::memory_outside::{Event, MemoryVault};
 use test_systems::{
     CREATED, Status, System, ask, count_blocks, first_made, new_system, nothing, plain, play, take,
 };

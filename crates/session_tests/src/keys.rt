@@ -1,11 +1,11 @@
 // What the key of a file system opens and seals.
 
-use aes_gcm::Aes256Gcm;
-use config_file::{Config, open_config};
 use outside::FileName;
 use seal_api::Sealer;
 use std::alloc::Global;
 use std::test::Fail;
+use test_systems::aes_gcm::Aes256Gcm;
+use test_systems::config_file::{Config, open_config};
 use test_systems::{System, block, file};
 
 /// The id of the root's block.

@@ -2,9 +2,9 @@
 
 use crate::left::leaves;
 use crate::trials::{CHILDREN, TOUCHED, play_over_nothing};
-use memory_outside::MemoryKeeper;
 use std::alloc::{AllocError, Global};
 use std::test::Fail;
+use test_systems::memory_outside::MemoryKeeper;
 use test_systems::{
     Run, Status, System, count_blocks, new_system, nothing, plain, play, play_anew, script, take,
 };

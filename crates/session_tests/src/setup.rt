@@ -3,11 +3,11 @@
 use crate::files::{by_hand, counted, unusable};
 use crate::keys::opened;
 use crate::left::leaves;
-use local_state::key_digest;
-use memory_outside::{MemoryKeeper, MemoryVault};
 use outside::{Change, FileName, Pending};
 use std::alloc::{AllocError, Global};
 use std::test::Fail;
+use test_systems::local_state::key_digest;
+use test_systems::memory_outside::{MemoryKeeper, MemoryVault};
 use test_systems::{
     CREATED, Run, Status, System, Words, count_blocks, file, new_system, nothing, outcome, plain,
     play, store, take,

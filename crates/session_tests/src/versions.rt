@@ -1,9 +1,9 @@
 // A block whose version can't rise.
 
 use crate::keys::{key_of, root_of, root_record, sealed_root};
-use memory_outside::MemoryKeeper;
 use std::alloc::Global;
 use std::test::Fail;
+use test_systems::memory_outside::MemoryKeeper;
 use test_systems::{System, block, new_system, play, store};
 
 /// The place of the version in a block's record.

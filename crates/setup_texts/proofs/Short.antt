@@ -5,12 +5,12 @@ use Rattle.std.specs.Prelude.{Result, OnErr}
 use Rattle.std.specs.declared.result.Result.TheVariants.{Ok, Err}
 use Rattle.block_id.specs.Name.{name_of}
 use Rattle.block_id.proofs.Names.{length-name_of}
-use Rattle.script_text.specs.Texts.{line, word}
-use Rattle.answers.proofs.Short.{decimal_short}
+use Rattle.mount_migrating.specs.script_text.Texts.{line, word}
+use Rattle.run_edges.proofs.answers_lemmas.Short.{decimal_short}
 use Rattle.scrypt_kdf.specs.Cost.{Cost}
-use Rattle.config_file.specs.Settings.{Settings, cipher_name}
-use Rattle.config_file.specs.declared.config.Cipher.{Cipher}
-use Rattle.config_file.specs.declared.config.Cipher.TheVariants.{Aes256Gcm}
+use Rattle.run_edges.specs.config_file.Settings.{Settings, cipher_name}
+use Rattle.run_edges.specs.config_file.declared.config.Cipher.{Cipher}
+use Rattle.run_edges.specs.config_file.declared.config.Cipher.TheVariants.{Aes256Gcm}
 use Rattle.setup_texts.specs.InfoText.{info_text}
 use Rattle.setup_texts.specs.MigrateText.{count_text}
 

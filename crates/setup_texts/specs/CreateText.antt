@@ -2,11 +2,11 @@
 use Rattle.std.specs.Prelude.{◌≡◌, ℕ, List, ◌++◌, codes, Result, Ok, Err}
 use Rattle.block_id.specs.declared.id.BlockId.{BlockId}
 use Rattle.block_id.specs.Name.{name_of}
-use Rattle.line_io.specs.Streams.{Stream, Untouched}
-use Rattle.mount_tower.specs.declared.error.OpenError.{OpenError}
+use Rattle.run_edges.specs.line_io.Streams.{Stream, Untouched}
+use Rattle.run_edges.specs.mount_tower.declared.error.OpenError.{OpenError}
 use Rattle.run_edges.specs.Statuses.{opening_status}
 use Rattle.run_status.specs.declared.status.Status.{Status}
-use Rattle.script_text.specs.Texts.{line}
+use Rattle.mount_migrating.specs.script_text.Texts.{line}
 use Rattle.setup_texts.specs.Printing.{Printed}
 
 -- what is printed

@@ -2,8 +2,8 @@
 use Rattle.std.specs.Prelude.{ℕ, List, ◌++◌, codes}
 use Rattle.std.specs.Fmt.{decimal}
 use Rattle.block_id.specs.Name.{name_of}
-use Rattle.config_file.specs.Settings.{Settings, cipher_name}
-use Rattle.script_text.specs.Texts.{line, word}
+use Rattle.run_edges.specs.config_file.Settings.{Settings, cipher_name}
+use Rattle.mount_migrating.specs.script_text.Texts.{line, word}
 use Rattle.scrypt_kdf.specs.Cost.{Cost}
 
 -- the lines of both ids

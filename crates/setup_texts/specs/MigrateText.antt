@@ -1,10 +1,10 @@
 -- What `migrate` prints.
 use Rattle.std.specs.Prelude.{ℕ, List, ◌++◌, codes, Result, Ok, Err}
 use Rattle.std.specs.Fmt.{decimal}
-use Rattle.answers.specs.Texts.{text_of_answer}
+use Rattle.run_edges.specs.answers.Texts.{text_of_answer}
 use Rattle.mount_migrating.specs.Migrating.{answer_of}
 use Rattle.mount_migrating.specs.declared.error.MigrateError.{MigrateError}
-use Rattle.script_text.specs.Texts.{line, word}
+use Rattle.mount_migrating.specs.script_text.Texts.{line, word}
 
 -- the line of a number of blocks
 abbrev pub count_text : ℕ → List ℕ

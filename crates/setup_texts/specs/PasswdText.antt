@@ -1,10 +1,10 @@
 -- What `passwd` prints.
 use Rattle.std.specs.Prelude.{◌≡◌, ℕ, List, codes, Result, Ok, Err}
-use Rattle.line_io.specs.Streams.{Stream, Untouched}
+use Rattle.run_edges.specs.line_io.Streams.{Stream, Untouched}
 use Rattle.run_edges.specs.Statuses.{closing_status}
 use Rattle.run_status.specs.declared.status.Status.{Status}
-use Rattle.script_text.specs.Texts.{line}
-use Rattle.session_saver.specs.declared.saver.SyncError.{SyncError}
+use Rattle.mount_migrating.specs.script_text.Texts.{line}
+use Rattle.mount_migrating.specs.session_saver.declared.saver.SyncError.{SyncError}
 use Rattle.setup_texts.specs.Printing.{Printed}
 
 -- what is printed

@@ -1,8 +1,8 @@
 -- A text that is written at the end of a run.
 use Rattle.std.specs.Prelude.{◌≡◌, ℕ, List}
 use Rattle.outside.specs.Streams.{appends}
-use Rattle.line_io.specs.Streams.{Stream, HasFailed, Cut}
-use Rattle.session_lines.specs.Driven.{IsUnfailed}
+use Rattle.run_edges.specs.line_io.Streams.{Stream, HasFailed, Cut}
+use Rattle.run_edges.specs.session_lines.Driven.{IsUnfailed}
 use Rattle.run_status.specs.declared.status.Status.{Status}
 use Rattle.run_status.specs.declared.status.Status.TheVariants.{Done, OutputFault}
 

@@ -1,13 +1,13 @@
 // What `create` prints.
 ghost use Rattle.std.specs.Prelude.{◌≤◌};
-ghost use Rattle.line_io.specs.Streams.{stream_of};
+ghost use Rattle.run_edges.specs.line_io.Streams.{stream_of};
 ghost use Rattle.setup_texts.specs.CreateText.{Reports, created_text};
 ghost use Rattle.setup_texts.specs.Printing.{Printed};
 
 use crate::print::print;
 use block_id::BlockId;
-use mount_tower::OpenError;
 use outside::Sink;
+use run_edges::mount_tower::OpenError;
 use run_edges::opening_status;
 use run_status::Status;
 

@@ -2,19 +2,19 @@
 ghost use Rattle.std.specs.Prelude.{◌≡◌, ◌≤◌, ◌++◌, [], codes, vec_capacity};
 ghost use Rattle.std.specs.Fmt.{decimal};
 ghost use Rattle.block_id.specs.Name.{name_of};
-ghost use Rattle.line_io.specs.Streams.{stream_of};
-ghost use Rattle.script_text.specs.Appending.{Appends};
-ghost use Rattle.script_text.specs.Texts.{line, word};
-ghost use Rattle.config_file.specs.Settings.{settings_of, cipher_name};
+ghost use Rattle.run_edges.specs.line_io.Streams.{stream_of};
+ghost use Rattle.mount_migrating.specs.script_text.Appending.{Appends};
+ghost use Rattle.mount_migrating.specs.script_text.Texts.{line, word};
+ghost use Rattle.run_edges.specs.config_file.Settings.{settings_of, cipher_name};
 ghost use Rattle.setup_texts.specs.InfoText.{ids_text, sealing_text, info_text};
 ghost use Rattle.setup_texts.specs.Printing.{Printed};
 
 use crate::print::print;
 use block_id::{BlockId, Memory};
-use config_file::{Cipher, Config, Opened};
+use mount_migrating::script_text::{push_bytes, push_decimal};
 use outside::Sink;
+use run_edges::config_file::{Cipher, Config, Opened};
 use run_status::Status;
-use script_text::{push_bytes, push_decimal};
 use scrypt_kdf::Params;
 
 /// Bytes that the five lines have at most.

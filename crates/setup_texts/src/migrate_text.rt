@@ -1,18 +1,18 @@
 // What `migrate` prints.
 ghost use Rattle.std.specs.Prelude.{◌≡◌, ◌≤◌, ◌<◌, ◌+◌, [], OnErr, vec_capacity, vec_len};
-ghost use Rattle.line_io.specs.Streams.{stream_of};
-ghost use Rattle.script_text.specs.Appending.{Appends};
+ghost use Rattle.run_edges.specs.line_io.Streams.{stream_of};
+ghost use Rattle.mount_migrating.specs.script_text.Appending.{Appends};
 ghost use Rattle.mount_migrating.specs.Migrating.{answer_of};
-ghost use Rattle.session_lines.specs.Driven.{Reported};
+ghost use Rattle.run_edges.specs.session_lines.Driven.{Reported};
 ghost use Rattle.setup_texts.specs.MigrateText.{migrated_text, count_text};
 
-use answers::{Answer, print_answer};
 use block_id::{Failed, Memory};
-use line_io::write_all;
 use mount_migrating::MigrateError;
+use mount_migrating::script_text::{push_bytes, push_decimal};
 use outside::Sink;
-use script_text::{push_bytes, push_decimal};
-use session_lines::End;
+use run_edges::answers::{Answer, print_answer};
+use run_edges::line_io::write_all;
+use run_edges::session_lines::End;
 
 /// Prints how many blocks were written anew, or why not all were, by memory that was taken beforehand.
 pub fn print_migrated<O: Sink>(

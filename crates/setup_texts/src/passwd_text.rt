@@ -1,13 +1,13 @@
 // What `passwd` prints.
 ghost use Rattle.std.specs.Prelude.{◌≤◌};
-ghost use Rattle.line_io.specs.Streams.{stream_of};
+ghost use Rattle.run_edges.specs.line_io.Streams.{stream_of};
 ghost use Rattle.setup_texts.specs.PasswdText.{Reports};
 
 use crate::print::print;
+use mount_migrating::session_saver::SyncError;
 use outside::Sink;
 use run_edges::closing_status;
 use run_status::Status;
-use session_saver::SyncError;
 
 /// Says that the password was changed, where that was done.
 pub fn report_changed<O: Sink>(change: Result<(), SyncError>, output: &mut O) -> Status

@@ -1,11 +1,11 @@
 // The text of a run.
 ghost use Rattle.std.specs.Prelude.{◌≤◌};
 ghost use Rattle.setup_texts.specs.Printing.{Printed};
-ghost use Rattle.line_io.specs.Streams.{stream_of};
+ghost use Rattle.run_edges.specs.line_io.Streams.{stream_of};
 
 use block_id::Failed;
-use line_io::write_all;
 use outside::Sink;
+use run_edges::line_io::write_all;
 use run_status::Status;
 
 /// Writes a text, with which all is printed.

@@ -11,3 +11,5 @@ pub mod Loads
 pub mod Overlay
 pub mod Passing
 pub mod Txs
+-- Handed on to crates above, which name their words so and needn't list them.
+pub use Rattle.outcome.specs as outcome

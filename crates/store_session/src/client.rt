@@ -1,6 +1,6 @@
 // Loads and a change of one command over any store.
 ghost use Rattle.std.specs.Prelude.{◌≡◌, ◌≤◌, true, length, take};
-ghost use Rattle.outcome.specs.Outcome.{Outcome};
+ghost use Rattle.store_api.specs.outcome.Outcome.{Outcome};
 ghost use Rattle.store_session.specs.Followed.{ContentFollows};
 ghost use Rattle.store_api.specs.Txs.{content_of, intact_in, tx_meanings};
 

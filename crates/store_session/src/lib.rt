@@ -7,3 +7,6 @@ mod putting;
 
 pub use client::follow;
 pub use putting::put_one;
+
+// Handed on to crates above, which needn't list them.
+pub use store_api;

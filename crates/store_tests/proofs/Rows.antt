@@ -3,8 +3,8 @@ use Rattle.std.proofs.Common.{◌≡◌, ℕ, List, Option, ◌∙◌, ap, sym, 
 use Rattle.std.specs.FinMap as fin
 use Rattle.std.specs.FinMap.{len-empty, len-entries}
 use Rattle.std.proofs.lemmas.List.{length-map}
-use Rattle.store_api.specs.Content.{Changes, id_cmp}
-use Rattle.store_api.specs.Holdings.{IsFew}
+use Rattle.block_cache.specs.store_api.Content.{Changes, id_cmp}
+use Rattle.block_cache.specs.store_api.Holdings.{IsFew}
 
 pub few_nothing : (rows : Changes) → rows ≡ fin.empty → IsFew (fin.keys rows)
 few_nothing rows is =

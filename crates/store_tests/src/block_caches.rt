@@ -3,12 +3,12 @@ ghost use Rattle.std.specs.Prelude.{◌≤◌, IfOk};
 
 use crate::counted::Counted;
 use block_cache::BlockCache;
+use block_cache::store_api::{Blocks, BlocksMut};
 use block_id::BlockId;
 use map_store::MapStore;
 use rand_pcg::Pcg32;
 use std::alloc::Global;
 use std::test::Fail;
-use store_api::{Blocks, BlocksMut};
 use store_session::put_one;
 
 const A: BlockId = BlockId([1; 16]);

@@ -1,9 +1,9 @@
 // The fronts of payloads through a cache, and how often the store below is asked for them.
 use crate::block_caches::{Cached, empty};
 use crate::fronts::{ID, LETTERS, are_fronts, follow_changes, give};
+use block_cache::store_api::Blocks;
 use std::alloc::Global;
 use std::test::Fail;
-use store_api::Blocks;
 
 #[test]
 fn tells_fronts_through_a_cache(rt: HostRuntime) -> Result<(), Fail> {

@@ -1,11 +1,11 @@
 // A store that counts the loads it is asked for, whole or of fronts.
-ghost use Rattle.outcome.specs.Lift.{lift_with, lawful_with};
+ghost use Rattle.block_cache.specs.outcome.Lift.{lift_with, lawful_with};
 ghost use Rattle.block_cache.specs.Through.{holdings_past, steady_with, stays_past};
 
+use block_cache::store_api::{ApplyError, Batch, Blocks, BlocksMut};
 use block_id::{BlockId, Fail};
 use rand_core::Rng;
 use std::alloc::Global;
-use store_api::{ApplyError, Batch, Blocks, BlocksMut};
 
 #[derive(Drop)]
 pub(crate) struct Counted<S> {

@@ -1,10 +1,10 @@
 // The fronts of payloads, as a store in memory and changes over it tell them.
+use block_cache::store_api::{Blocks, BlocksMut, Tx};
 use block_id::BlockId;
 use map_store::MapStore;
 use rand_pcg::Pcg32;
 use std::alloc::Global;
 use std::test::Fail;
-use store_api::{Blocks, BlocksMut, Tx};
 use store_session::put_one;
 
 pub(crate) const ID: BlockId = BlockId([1; 16]);

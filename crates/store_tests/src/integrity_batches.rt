@@ -1,24 +1,24 @@
 // Batches over a store in memory: what is loaded, known and waits afterwards.
 ghost use Rattle.std.specs.Prelude.{◌≡◌, IfOk};
-ghost use Rattle.sealed_store.specs.Stores.{IsIntact, block_size_of, cipher_of};
-ghost use Rattle.store_api.specs.Txs.{intact_in};
+ghost use Rattle.integrity_store.specs.sealed_store.Stores.{IsIntact, block_size_of, cipher_of};
+ghost use Rattle.block_cache.specs.store_api.Txs.{intact_in};
 
 use crate::integrity_files::{
     Sealed, plain_of, push_life, push_record_head, put_file, sealed_over,
 };
 use aes_gcm::Aes256Gcm;
+use block_cache::store_api::{ApplyError, Blocks, BlocksMut, Durable, Tx};
 use block_id::BlockId;
 use integrity_store::IntegrityStore;
-use local_state::decode;
+use integrity_store::local_state::decode;
+use integrity_store::sealed_store::Seen;
 use memory_outside::MemoryVault;
 use outside::{Change, FileName, Pending};
 use rand_core::Rng;
 use rand_pcg::Pcg32;
 use seal_api::Sealer;
-use sealed_store::Seen;
 use std::alloc::Global;
 use std::test::Fail;
-use store_api::{ApplyError, Blocks, BlocksMut, Durable, Tx};
 
 type Store = IntegrityStore<MemoryVault, Aes256Gcm>;
 

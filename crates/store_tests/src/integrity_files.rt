@@ -1,14 +1,14 @@
 // The files and the record of client 7, byte by byte as the format has them.
 ghost use Rattle.std.specs.Prelude.{◌≡◌, ◌≤◌, [], length};
-ghost use Rattle.sealed_store.specs.Stores.{IsIntact, block_size_of, cipher_of};
+ghost use Rattle.integrity_store.specs.sealed_store.Stores.{IsIntact, block_size_of, cipher_of};
 
 use aes_gcm::Aes256Gcm;
 use block_id::BlockId;
+use integrity_store::redo_vault::RedoVault;
+use integrity_store::sealed_store::SealedStore;
 use memory_outside::MemoryVault;
 use outside::{Change, FileName, Pending, Vault};
-use redo_vault::RedoVault;
 use seal_api::Sealer;
-use sealed_store::SealedStore;
 use std::alloc::Global;
 use std::test::Fail;
 

@@ -2,12 +2,12 @@
 use crate::fronts::follow_changes;
 use crate::integrity_files::{plain_of, sealed_file};
 use crate::integrity_loads::{Answer, LIVE, REMOVED, put_back_removed, store_from};
+use block_cache::store_api::Blocks;
 use block_id::{BlockId, Why};
 use memory_outside::MemoryVault;
 use outside::{FileName, Vault};
 use std::alloc::Global;
 use std::test::Fail;
-use store_api::Blocks;
 
 /// What is answered for the first 8 bytes of a block's payload.
 fn front_from(alloc: Global, below: MemoryVault, id: &BlockId) -> Result<Answer, Fail> {

@@ -4,13 +4,13 @@ ghost use Rattle.std.specs.Prelude.{IfOk};
 
 use crate::integrity_files::{plain_of, push_life, push_record_head, put_file, sealed_over};
 use aes_gcm::Aes256Gcm;
+use block_cache::store_api::Blocks;
 use block_id::BlockId;
 use integrity_store::IntegrityStore;
-use local_state::decode;
+use integrity_store::local_state::decode;
 use memory_outside::MemoryVault;
 use std::alloc::Global;
 use std::test::Fail;
-use store_api::Blocks;
 
 pub(crate) const LIVE: BlockId = BlockId([1; 16]);
 

@@ -1,12 +1,12 @@
 // Changes over a store in memory, and what is loaded of them.
-ghost use Rattle.store_api.specs.Txs.{intact_in};
+ghost use Rattle.block_cache.specs.store_api.Txs.{intact_in};
 
+use block_cache::store_api::{Blocks, BlocksMut, Tx};
 use block_id::BlockId;
 use map_store::MapStore;
 use rand_pcg::Pcg32;
 use std::alloc::Global;
 use std::test::Fail;
-use store_api::{Blocks, BlocksMut, Tx};
 use store_session::follow;
 
 /// The first 16 bytes of ChaCha20's stream for a key and a nonce of zeros.

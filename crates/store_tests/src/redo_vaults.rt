@@ -1,8 +1,8 @@
 // What waits over a directory, and what of it is written.
 use block_id::BlockId;
+use integrity_store::redo_vault::RedoVault;
 use memory_outside::MemoryVault;
 use outside::{Change, FileName, GetFail, Pending};
-use redo_vault::RedoVault;
 use std::alloc::Global;
 use std::test::Fail;
 

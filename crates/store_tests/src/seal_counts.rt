@@ -3,18 +3,18 @@ ghost use Rattle.std.specs.Prelude.{◌≡◌, IfOk};
 
 use crate::integrity_files::push_record_head;
 use aes_gcm::Aes256Gcm;
+use block_cache::store_api::{Blocks, BlocksMut, Durable};
 use block_id::{BlockId, Memory};
 use integrity_store::IntegrityStore;
-use local_state::decode;
+use integrity_store::local_state::decode;
+use integrity_store::redo_vault::RedoVault;
+use integrity_store::sealed_store::SealedStore;
 use memory_outside::MemoryVault;
 use rand_pcg::Pcg32;
-use redo_vault::RedoVault;
 use seal_api::Sealer;
-use sealed_store::SealedStore;
 use std::alloc::Global;
 use std::cell::Cell;
 use std::test::Fail;
-use store_api::{Blocks, BlocksMut, Durable};
 use store_session::put_one;
 
 /// A sealer that counts what it seals.

@@ -1,14 +1,14 @@
 // Files of both formats that are sealed, changed and opened.
 ghost use Rattle.std.specs.Prelude.{◌≡◌, IfOk};
-ghost use Rattle.sealed_store.specs.Stores.{IsIntact, block_size_of, cipher_of};
+ghost use Rattle.integrity_store.specs.sealed_store.Stores.{IsIntact, block_size_of, cipher_of};
 
 use crate::integrity_files::{Sealed, put_draft, sealed_file, sealed_over};
 use aes_gcm::Aes256Gcm;
 use block_id::{BlockId, Why};
+use integrity_store::sealed_store::Seen;
 use memory_outside::MemoryVault;
 use outside::{Change, FileName, Pending, Vault};
 use seal_api::Sealer;
-use sealed_store::Seen;
 use std::alloc::Global;
 use std::test::Fail;
 

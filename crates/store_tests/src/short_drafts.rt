@@ -1,14 +1,14 @@
 // Drafts of plaintexts that end with zeros.
 ghost use Rattle.std.specs.Prelude.{◌≡◌, ◌≤◌, IfOk};
-ghost use Rattle.sealed_store.specs.Stores.{IsIntact, block_size_of, cipher_of};
+ghost use Rattle.integrity_store.specs.sealed_store.Stores.{IsIntact, block_size_of, cipher_of};
 
 use crate::integrity_files::{Sealed, put_draft, sealed_over};
 use aes_gcm::Aes256Gcm;
 use block_id::BlockId;
+use integrity_store::sealed_store::Seen;
 use memory_outside::MemoryVault;
 use outside::{FileName, Vault};
 use seal_api::Sealer;
-use sealed_store::Seen;
 use std::alloc::Global;
 use std::test::Fail;
 

@@ -15,3 +15,9 @@ pub use system::{
     CREATED, Run, System, expect, expect_beside, failing_saves, mended, new_system, nothing,
     outcome, outcome_beside, plain, script, session,
 };
+
+// Handed on to crates above, which needn't list them.
+pub use cryfs_shell::{aes_gcm, config_file, local_state};
+pub use memory_folder;
+pub use memory_outside;
+pub use memory_outside::listing;

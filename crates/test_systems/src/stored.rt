@@ -9,8 +9,8 @@ ghost use Rattle.test_systems.specs.StoredFiles.{with_file};
 use crate::system::System;
 use block_id::BlockId;
 use memory_outside::MemoryVault;
+use memory_outside::pending_list::is_same;
 use outside::{Change, FileName, Pending};
-use pending_list::is_same;
 use std::alloc::{AllocError, Global};
 use std::test::Fail;
 

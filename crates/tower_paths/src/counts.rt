@@ -1,14 +1,14 @@
 // How many files a command on one entry of a directory reads and writes.
 ghost use Rattle.std.specs.Prelude.{IfOk};
-ghost use Rattle.store_api.specs.Holdings.{IsFew};
+ghost use Rattle.store_session.specs.store_api.Holdings.{IsFew};
 
 use crate::tower::{answer_each, empty_store, rooted};
-use blob_store::BlobStore;
 use memory_outside::Event;
 use std::alloc::Global;
 use std::process::Abort;
 use std::test::Fail;
-use store_api::{Durable, Tx};
+use store_session::store_api::{Durable, Tx};
+use tree_commands::blob_store::BlobStore;
 
 /// Seven entries of 68 bytes: 495 bytes of a directory, in 12 leaves.
 pub const FILES: [&str; 7] = [

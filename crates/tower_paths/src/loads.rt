@@ -1,7 +1,7 @@
 // How many blocks each call on a tree loads.
 ghost use Rattle.std.specs.Prelude.{◌≡◌, IfOk};
-ghost use Rattle.store_api.specs.Holdings.{IsFew};
-ghost use Rattle.store_api.specs.Txs.{intact_in};
+ghost use Rattle.store_session.specs.store_api.Holdings.{IsFew};
+ghost use Rattle.store_session.specs.store_api.Txs.{intact_in};
 
 use crate::tower::empty_store;
 use block_id::BlockId;
@@ -9,9 +9,9 @@ use memory_outside::Event;
 use rand_pcg::Pcg32;
 use std::alloc::Global;
 use std::test::Fail;
-use store_api::{Blocks, BlocksMut, Durable, Tx};
-use tree_calls::{drop_tree, len, new_tree, read_range};
-use tree_ranges::{resize, write_range};
+use store_session::store_api::{Blocks, BlocksMut, Durable, Tx};
+use tree_commands::tree_calls::{drop_tree, len, new_tree, read_range};
+use tree_commands::tree_ranges::{resize, write_range};
 
 /// A call on a tree, with the place and the number of bytes, or with the new length.
 #[derive(Clone, Copy)]

@@ -1,25 +1,25 @@
 // A file system in sealed blocks of 128 bytes over a directory in memory, and lines on it.
 ghost use Rattle.std.specs.Prelude.{◌≡◌, [], IfOk};
-ghost use Rattle.sealed_store.specs.Stores.{IsIntact, block_size_of, cipher_of};
-ghost use Rattle.store_api.specs.Holdings.{IsFew};
-ghost use Rattle.store_api.specs.Txs.{intact_in};
+ghost use Rattle.integrity_store.specs.sealed_store.Stores.{IsIntact, block_size_of, cipher_of};
+ghost use Rattle.store_session.specs.store_api.Holdings.{IsFew};
+ghost use Rattle.store_session.specs.store_api.Txs.{intact_in};
 
 use aes_gcm::Aes256Gcm;
-use blob_store::BlobStore;
 use block_id::BlockId;
 use fs_model::Moment;
 use integrity_store::IntegrityStore;
-use local_state::{Known, State, decode, encode};
+use integrity_store::local_state::{Known, State, decode, encode};
+use integrity_store::redo_vault::RedoVault;
+use integrity_store::sealed_store::SealedStore;
 use memory_outside::MemoryVault;
 use rand_pcg::Pcg32;
-use redo_vault::RedoVault;
 use script_text::{parse_line, print_reply};
 use seal_api::Sealer;
-use sealed_store::SealedStore;
 use std::alloc::Global;
 use std::test::Fail;
-use store_api::{Blocks, BlocksMut, Tx};
 use store_session::put_one;
+use store_session::store_api::{Blocks, BlocksMut, Tx};
+use tree_commands::blob_store::BlobStore;
 use tree_commands::{empty_root, perform};
 
 /// Sealed blocks over a directory in memory.

@@ -6,12 +6,12 @@ use Rattle.std.specs.FinMap.{get-insert}
 use Rattle.std.specs.Cmp.{eq_by_cmp_equiv}
 use Rattle.std.specs.Cmp.Lexicographic.{nat_list_cmp_total}
 use Rattle.outside.specs.Trace.{Call}
-use Rattle.local_state.specs.Record.{IsRecord}
-use Rattle.local_state.proofs.Records.{one_reading}
-use Rattle.store_api.specs.Content.{Content, same_id, or_else, over}
-use Rattle.store_api.specs.Durables.{Identity}
-use Rattle.held_blocks.specs.Held.{Held}
-use Rattle.held_blocks.specs.Standing.{identity_of, Stands}
+use Rattle.session_saver.specs.local_state.Record.{IsRecord}
+use Rattle.session_saver.proofs.local_state_lemmas.Records.{one_reading}
+use Rattle.block_cache.specs.store_api.Content.{Content, same_id, or_else, over}
+use Rattle.block_cache.specs.store_api.Durables.{Identity}
+use Rattle.integrity_store.specs.held_blocks.Held.{Held}
+use Rattle.integrity_store.specs.held_blocks.Standing.{identity_of, Stands}
 
 -- ---- a put
 

@@ -1,17 +1,17 @@
 // Changes of one store, and syncs, over any durable store and keeper.
 ghost use Rattle.std.specs.Prelude.{◌≡◌, true, IfOk};
-ghost use Rattle.store_api.specs.Holdings.{IsFew};
-ghost use Rattle.store_api.specs.Lists.{MayConfigure};
-ghost use Rattle.store_api.specs.Txs.{intact_in};
+ghost use Rattle.block_cache.specs.store_api.Holdings.{IsFew};
+ghost use Rattle.block_cache.specs.store_api.Lists.{MayConfigure};
+ghost use Rattle.block_cache.specs.store_api.Txs.{intact_in};
 
 use crate::tower::Tower;
+use block_cache::store_api::{Blocks, BlocksMut, Durable, Tx};
 use block_id::BlockId;
 use outside::Keeper;
 use rand_pcg::Pcg32;
 use session_saver::{Saver, SyncError};
 use std::alloc::Global;
 use std::test::Fail;
-use store_api::{Blocks, BlocksMut, Durable, Tx};
 use store_session::{follow, put_one};
 
 /// A block and the byte that its payload is made of, or None where the block is removed.

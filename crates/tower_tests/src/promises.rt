@@ -1,7 +1,7 @@
 // What every durable store promises a client, over a directory and a record in memory: each function begins with empty ones and answers whether it was kept.
 ghost use Rattle.std.specs.Prelude.{IfOk};
-ghost use Rattle.store_api.specs.Holdings.{IsFew};
-ghost use Rattle.store_api.specs.Txs.{intact_in};
+ghost use Rattle.block_cache.specs.store_api.Holdings.{IsFew};
+ghost use Rattle.block_cache.specs.store_api.Txs.{intact_in};
 
 use crate::changes::{
     Change, Ended, Sizes, Synced, change_and_sync, commit_all, configure_and_sync, follow_and_sync,
@@ -9,13 +9,13 @@ use crate::changes::{
 };
 use crate::site::{Loaded, Site, first_byte};
 use crate::tower::Tower;
+use block_cache::store_api::{Blocks, BlocksMut, Tx};
 use block_id::BlockId;
 use memory_outside::{Event, MemoryKeeper, MemoryVault};
 use outside::FileName;
 use session_saver::SyncError;
 use std::alloc::Global;
 use std::test::Fail;
-use store_api::{Blocks, BlocksMut, Tx};
 
 const A: BlockId = BlockId([1; 16]);
 

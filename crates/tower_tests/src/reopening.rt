@@ -6,26 +6,26 @@ ghost use Rattle.outside.specs.Changes.{change_at};
 ghost use Rattle.outside.specs.Honest.{count_told};
 ghost use Rattle.outside.specs.Trace.{config};
 ghost use Rattle.outside.specs.View.{bytes_of, list_of};
-ghost use Rattle.store_api.specs.Content.{Content, SameContent, over};
-ghost use Rattle.store_api.specs.Durables.{Identity};
-ghost use Rattle.store_api.specs.Holdings.{IsFew};
+ghost use Rattle.block_cache.specs.store_api.Content.{Content, SameContent, over};
+ghost use Rattle.block_cache.specs.store_api.Durables.{Identity};
+ghost use Rattle.block_cache.specs.store_api.Holdings.{IsFew};
 ghost use Rattle.session_saver.specs.Saving.{RepresentsContent};
-ghost use Rattle.held_blocks.specs.Forgeries.{forged};
-ghost use Rattle.held_blocks.specs.Standing.{Stands};
-ghost use Rattle.held_blocks.specs.Stores.{IsNoBlock};
+ghost use Rattle.integrity_store.specs.held_blocks.Forgeries.{forged};
+ghost use Rattle.integrity_store.specs.held_blocks.Standing.{Stands};
+ghost use Rattle.integrity_store.specs.held_blocks.Stores.{IsNoBlock};
 
+use block_cache::store_api::{Blocks, Durable};
 use block_id::BlockId;
 use integrity_store::IntegrityStore;
-use local_state::decode;
+use integrity_store::redo_vault::RedoVault;
+use integrity_store::sealed_store::SealedStore;
 use outside::{Change, FileName, Keeper, Pending, Vault};
 use rand_core::Rng;
-use redo_vault::RedoVault;
 use seal_api::Sealer;
-use sealed_store::SealedStore;
 use session_saver::Saver;
+use session_saver::local_state::decode;
 use std::alloc::Global;
 use std::test::Fail;
-use store_api::{Blocks, Durable};
 use store_session::put_one;
 
 /// Has an id get a payload, and syncs.
@@ -76,7 +76,7 @@ fn put_and_sync<S: Durable + Drop, K: Keeper + Drop, R: Rng>(
 pub(crate) fn is_no_block(list: &[Pending]) -> bool
     ensures { result ≡ true → IsNoBlock (change_at config (list_of list.now)) }
 {
-    match pending_list::lookup(list, &FileName::Config) {
+    match memory_outside::pending_list::lookup(list, &FileName::Config) {
         Some(Change::Bytes(bytes)) => !bytes.starts_with(b"cryfs;block;0\0"),
         Some(Change::Removal) => true,
         None => true,

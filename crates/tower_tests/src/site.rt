@@ -2,23 +2,23 @@
 ghost use Rattle.std.specs.Prelude.{◌≡◌, IfOk};
 ghost use Rattle.outside.specs.Changes.{IsIncreasing};
 ghost use Rattle.outside.specs.View.{list_of};
-ghost use Rattle.sealed_store.specs.Stores.{IsIntact, block_size_of, cipher_of};
-ghost use Rattle.store_api.specs.Holdings.{IsFew};
+ghost use Rattle.integrity_store.specs.sealed_store.Stores.{IsIntact, block_size_of, cipher_of};
+ghost use Rattle.block_cache.specs.store_api.Holdings.{IsFew};
 
 use crate::reopening::is_no_block;
 use aes_gcm::Aes256Gcm;
+use block_cache::store_api::Blocks;
 use block_id::BlockId;
-use block_records::write_record;
 use integrity_store::IntegrityStore;
-use local_state::decode;
+use integrity_store::block_records::write_record;
+use integrity_store::redo_vault::RedoVault;
+use integrity_store::sealed_store::SealedStore;
 use memory_outside::{MemoryKeeper, MemoryVault};
 use outside::{Change, FileName, Pending, Vault};
-use redo_vault::RedoVault;
 use seal_api::Sealer;
-use sealed_store::SealedStore;
+use session_saver::local_state::decode;
 use std::alloc::Global;
 use std::test::Fail;
-use store_api::Blocks;
 
 pub(crate) type Store = IntegrityStore<MemoryVault, Aes256Gcm>;
 
@@ -158,7 +158,7 @@ impl Site {
 
     /// A copy of a block's file.
     pub(crate) fn file(&self, alloc: Global, id: &BlockId) -> Result<Vec<u8>, Fail> {
-        match pending_list::lookup(self.vault.files(), &FileName::Block(*id)) {
+        match memory_outside::pending_list::lookup(self.vault.files(), &FileName::Block(*id)) {
             Some(Change::Bytes(bytes)) => Ok(bytes.as_slice().to_vec(alloc)?),
             Some(Change::Removal) => Err("removed".into()),
             None => Err("no file".into()),
@@ -167,7 +167,7 @@ impl Site {
 
     /// How many bytes a block's file has, none where there is no file.
     pub(crate) fn file_len(&self, id: &BlockId) -> usize {
-        match pending_list::lookup(self.vault.files(), &FileName::Block(*id)) {
+        match memory_outside::pending_list::lookup(self.vault.files(), &FileName::Block(*id)) {
             Some(Change::Bytes(bytes)) => bytes.len(),
             _ => 0,
         }

@@ -1,13 +1,13 @@
 // Durable stores that are opened over a directory in memory.
 ghost use Rattle.std.specs.Prelude.{◌≡◌, IfOk};
-ghost use Rattle.store_api.specs.Holdings.{IsFew};
+ghost use Rattle.block_cache.specs.store_api.Holdings.{IsFew};
 
 use crate::site::{Store, open};
 use block_cache::BlockCache;
+use block_cache::store_api::Durable;
 use memory_outside::MemoryVault;
 use std::alloc::Global;
 use std::test::Fail;
-use store_api::Durable;
 
 /// A durable store over a directory in memory.
 pub(crate) trait Tower: Durable {

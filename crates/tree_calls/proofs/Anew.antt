@@ -3,10 +3,10 @@ use Rattle.std.proofs.Common.{◌≡◌, ◌⊎◌, ℕ, Bool, true, false, cond
 use Rattle.std.specs.Prelude.{Some, None, is_some, ◌||◌}
 use Rattle.std.proofs.lemmas.Bool.{or_cases, or_parts, false_from_ne_true}
 use Rattle.block_id.proofs.Options.{none_is}
-use Rattle.data_nodes.specs.Layout.{NodeText, IsNode}
-use Rattle.store_api.specs.Content.{Id, same_id}
-use Rattle.store_api.specs.Holdings.{Holdings, Stays, has_id}
-use Rattle.store_api.proofs.Rising.{same_id_is}
+use Rattle.data_tree.specs.data_nodes.Layout.{NodeText, IsNode}
+use Rattle.data_tree.specs.store_api.Content.{Id, same_id}
+use Rattle.data_tree.specs.store_api.Holdings.{Holdings, Stays, has_id}
+use Rattle.data_tree.proofs.store_api_lemmas.Rising.{same_id_is}
 use Rattle.data_tree.specs.Trees.{IsTree, Holds, IsDepth, NoDoubles, Replaces, depth_in}
 use Rattle.data_tree.specs.Needs.{Sets, HasBelow, KeepsShape, Built, NewTree}
 use Rattle.data_tree.specs.Roots.{IsRoot, IsNewRoot}

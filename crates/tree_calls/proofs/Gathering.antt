@@ -1,8 +1,8 @@
 -- What is read of trees that stand side by side, one after the other.
 use Rattle.std.proofs.Common.{◌≡◌, ℕ, ◌-◌, ◌≤◌, List, [], ◌∷◌, ◌++◌, length, take, drop, refl, ◌∙◌, subst, arith}
 use Rattle.std.specs.Prelude.{true}
-use Rattle.store_api.specs.Content.{Id}
-use Rattle.store_api.specs.Holdings.{Holdings, Stays}
+use Rattle.data_tree.specs.store_api.Content.{Id}
+use Rattle.data_tree.specs.store_api.Holdings.{Holdings, Stays}
 use Rattle.data_tree.specs.Trees.{IsTree, Forest, span, NoDoubles}
 use Rattle.data_tree.specs.Needs.{HasTree, HasTrees}
 use Rattle.data_tree.proofs.Ids.{alone-parts}

@@ -2,8 +2,8 @@
 use Rattle.std.proofs.Common.{◌≡◌, ℕ, zero, suc, ◌+◌, ◌*◌, ◌<◌, ◌≤◌, List, [], ◌∷◌, ◌++◌, length, take, drop, refl, sym, ◌∙◌, ap, subst, arith, append_assoc}
 use Rattle.std.proofs.lemmas.List.{length-take, length-drop}
 use Rattle.std.proofs.Math.Nat.{mul-le-mul_right}
-use Rattle.store_api.specs.Content.{Id}
-use Rattle.store_api.specs.Holdings.{Holdings}
+use Rattle.data_tree.specs.store_api.Content.{Id}
+use Rattle.data_tree.specs.store_api.Holdings.{Holdings}
 use Rattle.data_tree.specs.Trees.{IsTree, Forest, span, NoDoubles}
 use Rattle.data_tree.specs.Needs.{HasTree, HasTrees}
 use Rattle.data_tree.proofs.Ids.{alone-parts}

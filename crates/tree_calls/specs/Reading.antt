@@ -1,7 +1,7 @@
 -- Parts of the bytes that trees hold.
 use Rattle.std.specs.Prelude.{◌≡◌, ℕ, List, ◌++◌, take, drop}
-use Rattle.store_api.specs.Content.{Id}
-use Rattle.store_api.specs.Holdings.{Holdings}
+use Rattle.data_tree.specs.store_api.Content.{Id}
+use Rattle.data_tree.specs.store_api.Holdings.{Holdings}
 use Rattle.data_tree.specs.Trees.{IsTree, Forest, span, NoDoubles}
 
 -- the places from the first number up to the second

@@ -1,8 +1,8 @@
 -- What a tree that is written anew needs.
 use Rattle.std.specs.Prelude.{◌≡◌, ℕ, true, List, ◌∷◌}
-use Rattle.data_nodes.specs.Layout.{NodeText}
-use Rattle.store_api.specs.Content.{Id}
-use Rattle.store_api.specs.Holdings.{Holdings}
+use Rattle.data_tree.specs.data_nodes.Layout.{NodeText}
+use Rattle.data_tree.specs.store_api.Content.{Id}
+use Rattle.data_tree.specs.store_api.Holdings.{Holdings}
 use Rattle.data_tree.specs.Trees.{Holds, NoDoubles, depth_in}
 
 -- a root's node, with what stands below it

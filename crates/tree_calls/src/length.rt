@@ -1,18 +1,18 @@
 // The length of what a tree holds.
 ghost use Rattle.std.specs.Prelude.{◌≡◌, ◌≤◌, ◌<◌, ◌^◌, ◌+◌, ◌*◌, true, is_some, length, IfOk, OnOk};
-ghost use Rattle.outcome.specs.Outcome.{Outcome};
-ghost use Rattle.store_api.specs.Holdings.{Stays};
-ghost use Rattle.store_api.specs.Txs.{LoadsBelow, intact_in, tx_holdings, tx_meanings};
-ghost use Rattle.data_nodes.specs.Layout.{node_of};
+ghost use Rattle.data_tree.specs.outcome.Outcome.{Outcome};
+ghost use Rattle.data_tree.specs.store_api.Holdings.{Stays};
+ghost use Rattle.data_tree.specs.store_api.Txs.{LoadsBelow, intact_in, tx_holdings, tx_meanings};
+ghost use Rattle.data_tree.specs.data_nodes.Layout.{node_of};
 ghost use Rattle.data_tree.specs.Needs.{HasTree, HasBelow};
 ghost use Rattle.data_tree.specs.Roots.{IsAtLevel};
 ghost use Rattle.data_tree.specs.Trees.{span};
 
 use block_id::{BlockId, Fail};
-use data_nodes::Node;
+use data_tree::data_nodes::Node;
+use data_tree::store_api::{Blocks, Tx};
 use data_tree::{Level, load_at};
 use std::alloc::Global;
-use store_api::{Blocks, Tx};
 
 #[cycle(len)]
 fn len_below<S: Blocks>(

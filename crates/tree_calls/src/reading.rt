@@ -1,19 +1,19 @@
 // Reading a part of a tree.
 ghost use Rattle.std.specs.Prelude.{◌≡◌, ◌≤◌, ◌<◌, ◌++◌, true, is_some, length, IfOk, OnOk};
-ghost use Rattle.outcome.specs.Outcome.{Outcome};
-ghost use Rattle.store_api.specs.Holdings.{Stays};
-ghost use Rattle.store_api.specs.Txs.{intact_in, tx_holdings, tx_meanings};
-ghost use Rattle.data_nodes.specs.Layout.{ids_of, node_of, FitsPayload};
+ghost use Rattle.data_tree.specs.outcome.Outcome.{Outcome};
+ghost use Rattle.data_tree.specs.store_api.Holdings.{Stays};
+ghost use Rattle.data_tree.specs.store_api.Txs.{intact_in, tx_holdings, tx_meanings};
+ghost use Rattle.data_tree.specs.data_nodes.Layout.{ids_of, node_of, FitsPayload};
 ghost use Rattle.data_tree.specs.Needs.{HasTree, HasTrees, HasBelow};
 ghost use Rattle.data_tree.specs.Trees.{span, depth_in};
 ghost use Rattle.tree_calls.specs.Reading.{between};
 
 use crate::part::{Part, append_part};
 use block_id::{BlockId, Fail};
-use data_nodes::Node;
+use data_tree::data_nodes::Node;
+use data_tree::store_api::{Blocks, Tx};
 use data_tree::{Level, load_at};
 use std::alloc::Global;
-use store_api::{Blocks, Tx};
 
 /// Appends a part of the bytes of a tree.
 #[cycle(read)]

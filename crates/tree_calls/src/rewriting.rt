@@ -1,11 +1,11 @@
 // Writing a tree anew under the id of its root.
 ghost use Rattle.std.specs.Prelude.{◌≡◌, ◌≤◌, ◌<◌, ◌+◌, ◌^◌, [], ◌∷◌, true, is_some, length, IfOk, OnOk};
 ghost use Rattle.block_id.specs.Contents.{written};
-ghost use Rattle.outcome.specs.Outcome.{Outcome};
-ghost use Rattle.store_api.specs.Content.{Id};
-ghost use Rattle.store_api.specs.Holdings.{Stays};
-ghost use Rattle.store_api.specs.Txs.{content_of, intact_in, tx_holdings, tx_meanings};
-ghost use Rattle.data_nodes.specs.Layout.{node_of, FitsPayload};
+ghost use Rattle.data_tree.specs.outcome.Outcome.{Outcome};
+ghost use Rattle.data_tree.specs.store_api.Content.{Id};
+ghost use Rattle.data_tree.specs.store_api.Holdings.{Stays};
+ghost use Rattle.data_tree.specs.store_api.Txs.{content_of, intact_in, tx_holdings, tx_meanings};
+ghost use Rattle.data_tree.specs.data_nodes.Layout.{node_of, FitsPayload};
 ghost use Rattle.tree_calls.specs.Rewriting.{HasRootNode};
 ghost use Rattle.data_tree.specs.Roots.{IsRoot, IsNewRoot, IsTooDeep};
 ghost use Rattle.data_tree.specs.Trees.{span, IsDepth};
@@ -13,10 +13,10 @@ ghost use Rattle.data_tree.specs.Trees.{span, IsDepth};
 use crate::part::Part;
 use crate::reading::read_in;
 use block_id::{BlockId, Fail, Memory, Why};
-use data_nodes::Node;
+use data_tree::data_nodes::Node;
+use data_tree::store_api::{Blocks, Tx};
 use data_tree::{Level, MOST_BYTES, build, depth_of, drop_in, level_for, load_root, put_node};
 use std::alloc::Global;
-use store_api::{Blocks, Tx};
 
 /// A new tree for the bytes under an id that has a block.
 fn put_tree<S: Blocks>(

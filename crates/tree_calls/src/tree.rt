@@ -2,9 +2,9 @@
 ghost use Rattle.std.specs.Prelude.{◌≡◌, ◌≤◌, ◌<◌, ◌+◌, ◌^◌, [], length, take, drop, IfOk, IfErr, OnOk};
 ghost use Rattle.block_id.specs.declared.fail.Fail.TheVariants.{Memory};
 ghost use Rattle.block_id.specs.Contents.{resized, written};
-ghost use Rattle.outcome.specs.Outcome.{Outcome};
-ghost use Rattle.store_api.specs.Holdings.{Stays};
-ghost use Rattle.store_api.specs.Txs.{content_of, intact_in, tx_holdings, tx_meanings};
+ghost use Rattle.data_tree.specs.outcome.Outcome.{Outcome};
+ghost use Rattle.data_tree.specs.store_api.Holdings.{Stays};
+ghost use Rattle.data_tree.specs.store_api.Txs.{content_of, intact_in, tx_holdings, tx_meanings};
 ghost use Rattle.data_tree.specs.Roots.{IsRoot, IsNewRoot, IsTooDeep};
 ghost use Rattle.data_tree.specs.Trees.{Replaces};
 
@@ -13,9 +13,9 @@ use crate::part::Part;
 use crate::reading::read_in;
 use crate::rewriting::{overwrite, read_root, rewrite};
 use block_id::{BlockId, Fail};
+use data_tree::store_api::{Blocks, Tx};
 use data_tree::{drop_in, level_for, load_head, load_root, new_below, remove};
 use std::alloc::Global;
-use store_api::{Blocks, Tx};
 
 /// How many bytes the tree has. Of a root that is a leaf the front of its block is opened, else a block is loaded for each
 /// level.

@@ -4,14 +4,14 @@ use Rattle.std.specs.Prelude.{Some, None, Result, IfOk, Ok, Err}
 use Rattle.std.specs.FinMap.{get, insert, empty, get-insert, get-empty}
 use Rattle.std.specs.Cmp.Lexicographic.{nat_list_cmp_total}
 use Rattle.block_id.specs.declared.fail.Fail.{Fail}
-use Rattle.outcome.specs.Meanings.{Meanings}
-use Rattle.outcome.specs.Outcome.{Outcome, sounded_}
-use Rattle.store_api.specs.Content.{Id, Content, SameContent, Changes, same_id}
-use Rattle.store_api.specs.Holdings.{Holdings, Steady}
-use Rattle.data_nodes.specs.Layout.{leaf, IsNode, room}
-use Rattle.data_tree.specs.Stored.{StoresBlobs}
-use Rattle.data_tree.proofs.Ids.{same_self}
-use Rattle.blob_api.specs.BlobMap.{id_cmp}
+use Rattle.path_contents.specs.outcome.Meanings.{Meanings}
+use Rattle.path_contents.specs.outcome.Outcome.{Outcome, sounded_}
+use Rattle.blob_store.specs.store_api.Content.{Id, Content, SameContent, Changes, same_id}
+use Rattle.blob_store.specs.store_api.Holdings.{Holdings, Steady}
+use Rattle.blob_store.specs.data_nodes.Layout.{leaf, IsNode, room}
+use Rattle.blob_store.specs.data_tree.Stored.{StoresBlobs}
+use Rattle.blob_store.proofs.data_tree_lemmas.Ids.{same_self}
+use Rattle.blob_store.specs.blob_api.BlobMap.{id_cmp}
 use Rattle.blob_store.specs.Meanings.{meanings_by, holdings_by}
 use Rattle.blob_store.proofs.Laws.{stores_leaf, stores_same}
 use Rattle.fs_model.specs.declared.command.Command.{Command}
@@ -19,8 +19,8 @@ use Rattle.fs_model.specs.declared.reply.Reply.{Reply}
 use Rattle.fs_model.specs.Instant.{Instant}
 use Rattle.fs_model.specs.Step.{step}
 use Rattle.fs_model.specs.Tree.{Tree, empty_tree}
-use Rattle.forest.specs.Shows.{ShowsBy}
-use Rattle.forest.specs.Showing.{BlobsShow as NeedsTree, Performed}
+use Rattle.path_contents.specs.forest.Shows.{ShowsBy}
+use Rattle.path_contents.specs.forest.Showing.{BlobsShow as NeedsTree, Performed}
 use Rattle.tree_commands.specs.Performing.{Shown, Steps}
 use Rattle.tree_commands.specs.Showing.{ShowsFiles}
 

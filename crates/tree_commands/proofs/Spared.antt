@@ -2,16 +2,16 @@
 use Rattle.std.proofs.Common.{◌≡◌, ℕ, ◌+◌, ◌≤◌, List, refl, arith}
 use Rattle.std.specs.Prelude.{Some}
 use Rattle.std.specs.FinMap as fin
-use Rattle.outcome.specs.Meanings.{Meanings}
-use Rattle.store_api.specs.Content.{Changes}
-use Rattle.store_api.specs.Holdings.{Holdings, Steady}
-use Rattle.blob_api.specs.BlobMap.{BlobHoldings}
+use Rattle.path_contents.specs.outcome.Meanings.{Meanings}
+use Rattle.blob_store.specs.store_api.Content.{Changes}
+use Rattle.blob_store.specs.store_api.Holdings.{Holdings, Steady}
+use Rattle.blob_store.specs.blob_api.BlobMap.{BlobHoldings}
 use Rattle.blob_store.specs.Meanings.{holdings_by}
-use Rattle.data_nodes.specs.Layout.{room}
+use Rattle.blob_store.specs.data_nodes.Layout.{room}
 use Rattle.fs_model.specs.declared.command.Command.{Command}
 use Rattle.fs_model.specs.declared.command.Command.TheVariants.{Write}
 use Rattle.fs_model.specs.Tree.{Tree}
-use Rattle.forest.specs.Showing.{BlobsShow as NeedsTree}
+use Rattle.path_contents.specs.forest.Showing.{BlobsShow as NeedsTree}
 use Rattle.tree_commands.specs.Sparing.{IsSparingIn, OnWriteInside}
 use Rattle.tree_commands.specs.Performing.{Shown}
 use Rattle.tree_commands.specs.Showing.{ShowsFiles}

@@ -7,7 +7,7 @@ use Rattle.fs_model.specs.declared.reply.Reply.TheVariants.{Done, Rows, Info, Ta
 use Rattle.fs_model.specs.Instant.{Instant}
 use Rattle.fs_model.specs.Step.{step}
 use Rattle.fs_model.specs.Tree.{Path, Tree}
-use Rattle.store_api.specs.Content.{Content}
+use Rattle.blob_store.specs.store_api.Content.{Content}
 
 -- how payloads of one length, from one root on, show a tree
 abbrev pub Showing : Type 1

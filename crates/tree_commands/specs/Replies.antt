@@ -2,7 +2,7 @@
 use Rattle.fs_model.specs.declared.command.Command.{Command}
 use Rattle.fs_model.specs.declared.command.Command.TheVariants as command
 use Rattle.fs_model.specs.declared.reply.Reply.{Reply}
-use Rattle.path_walks.specs.Replies.{IsChangeReply}
+use Rattle.path_contents.specs.path_walks.Replies.{IsChangeReply}
 use Rattle.path_contents.specs.Replies.{IsRows, IsStatReply, IsTarget, IsContent}
 
 -- a reply that is no error has the form that its command asks for

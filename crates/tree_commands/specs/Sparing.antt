@@ -3,8 +3,8 @@ use Rattle.std.specs.Prelude.{◌≡◌, ◌≤◌, ◌+◌, ℕ, length}
 use Rattle.std.specs.FinMap.{get}
 use Rattle.std.specs.declared.option.Option.TheVariants.{Some}
 use Rattle.block_id.specs.Contents.{pieces}
-use Rattle.blob_api.specs.BlobMap.{BlobHoldings}
-use Rattle.data_nodes.specs.Layout.{room}
+use Rattle.blob_store.specs.blob_api.BlobMap.{BlobHoldings}
+use Rattle.blob_store.specs.data_nodes.Layout.{room}
 use Rattle.fs_model.specs.declared.attr.Kind.TheVariants.{File}
 use Rattle.fs_model.specs.declared.command.Command.{Command}
 use Rattle.fs_model.specs.declared.command.Command.TheVariants.{Write}

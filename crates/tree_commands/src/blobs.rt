@@ -1,20 +1,20 @@
 // Commands on the tree that blobs show, whatever keeps them.
 ghost use Rattle.std.specs.Prelude.{◌≡◌, ◌≤◌, IfOk};
-ghost use Rattle.outcome.specs.Outcome.{Outcome};
+ghost use Rattle.path_contents.specs.outcome.Outcome.{Outcome};
 ghost use Rattle.fs_model.specs.Fitting.{IsFitting};
 ghost use Rattle.fs_model.specs.Laws.{OnlyLooks};
 ghost use Rattle.fs_model.specs.Step.{step};
-ghost use Rattle.forest.specs.Showing.{BlobsShow, Performed};
+ghost use Rattle.path_contents.specs.forest.Showing.{BlobsShow, Performed};
 ghost use Rattle.tree_commands.specs.Replies.{IsReplyOf};
 ghost use Rattle.tree_commands.specs.Sparing.{IsSparingIn};
 
-use blob_api::Blobs;
+use blob_store::blob_api::Blobs;
 use block_id::{BlockId, Fail};
 use fs_model::{Command, Moment, Reply};
+use path_contents::tree_rules::AttrChange;
 use path_contents::{list, read, read_link, set_attributes, stat, truncate, write};
 use path_rows::{make_directory, make_file, make_link, move_row, remove_directory, remove_file};
 use std::alloc::Global;
-use tree_rules::AttrChange;
 
 /// One command on the tree that the blobs show.
 pub fn perform_on_blobs<B: Blobs>(

@@ -2,23 +2,23 @@
 ghost use Rattle.std.specs.Prelude.{◌≡◌, ◌≤◌, ◌+◌, ℕ, List, IfOk, cond, length};
 ghost use Rattle.std.specs.FinMap as fin;
 ghost use Rattle.std.specs.declared.option.Option.TheVariants.{None, Some};
-ghost use Rattle.data_nodes.specs.Layout.{IsPayloadLen};
+ghost use Rattle.blob_store.specs.data_nodes.Layout.{IsPayloadLen};
 ghost use Rattle.fs_model.specs.Fitting.{IsFitting};
 ghost use Rattle.fs_model.specs.Tree.{empty_tree};
-ghost use Rattle.outcome.specs.Outcome.{Outcome};
-ghost use Rattle.store_api.specs.Content.{Content, same_id};
-ghost use Rattle.store_api.specs.Txs.{content_of, intact_in, tx_meanings};
+ghost use Rattle.path_contents.specs.outcome.Outcome.{Outcome};
+ghost use Rattle.blob_store.specs.store_api.Content.{Content, same_id};
+ghost use Rattle.blob_store.specs.store_api.Txs.{content_of, intact_in, tx_meanings};
 ghost use Rattle.tree_commands.specs.Performing.{Shown, Steps, IsReplyTo};
 ghost use Rattle.tree_commands.specs.Showing.{ShowsFiles};
 ghost use Rattle.tree_commands.specs.Sparing.{OnWriteInside};
 
 use crate::blobs::perform_on_blobs;
 use blob_store::BlobStore;
+use blob_store::data_nodes::{Node, write_node};
+use blob_store::store_api::{Blocks, Tx};
 use block_id::{BlockId, Fail, Memory};
-use data_nodes::{Node, write_node};
 use fs_model::{Command, Moment, Reply};
 use std::alloc::Global;
-use store_api::{Blocks, Tx};
 
 /// One command on the tree of files that the blocks show from the root on.
 pub fn perform<S: Blocks>(

@@ -7,3 +7,9 @@ mod commands;
 pub use blob_store::BlobStore;
 pub use blobs::perform_on_blobs;
 pub use commands::{empty_root, perform};
+
+// Handed on to crates above, which needn't list them.
+pub use blob_store;
+pub use blob_store::{tree_calls, tree_ranges};
+pub use path_contents::{dir_blob, dir_entries, fs_blobs};
+pub use path_rows;

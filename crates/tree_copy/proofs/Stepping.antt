@@ -13,16 +13,16 @@ use Rattle.fs_model.specs.declared.limits.TheConstants.{MAX_PATH_TEXT}
 use Rattle.fs_model.specs.declared.reply.ListRow.{ListRow}
 use Rattle.fs_model.specs.Tree.{name_cmp}
 use Rattle.fs_model.proofs.TreeLemmas.{name_total}
-use Rattle.host_folder.specs.Folders.{HostRow, HostPath, HostTree, IsHostTree, AreRowsOf, kind_in, row_pair}
-use Rattle.copy_rules.specs.declared.copied.Totals.{Totals}
-use Rattle.copy_rules.specs.declared.copied.CopyFail.{CopyFail}
-use Rattle.copy_rules.specs.declared.copied.CopyFail.TheVariants as fail
-use Rattle.copy_rules.specs.Ends.{AreShort, HostCause, text_size}
-use Rattle.copy_rules.specs.Exporting.{AreServed, FailsOut, HasRows, IsBare, IsIdleBy, totals_in}
-use Rattle.copy_rules.specs.Questions.{Question, Asking, LawfulAsker, Asked}
-use Rattle.copy_rules.proofs.Asking.{asked_none}
-use Rattle.copy_rules.proofs.Walking.{above}
-use Rattle.copy_rules.specs.Walks.{todo_in}
+use Rattle.row_copy.specs.host_folder.Folders.{HostRow, HostPath, HostTree, IsHostTree, AreRowsOf, kind_in, row_pair}
+use Rattle.row_copy.specs.copy_rules.declared.copied.Totals.{Totals}
+use Rattle.row_copy.specs.copy_rules.declared.copied.CopyFail.{CopyFail}
+use Rattle.row_copy.specs.copy_rules.declared.copied.CopyFail.TheVariants as fail
+use Rattle.row_copy.specs.copy_rules.Ends.{AreShort, HostCause, text_size}
+use Rattle.row_copy.specs.copy_rules.Exporting.{AreServed, FailsOut, HasRows, IsBare, IsIdleBy, totals_in}
+use Rattle.row_copy.specs.copy_rules.Questions.{Question, Asking, LawfulAsker, Asked}
+use Rattle.row_copy.proofs.copy_rules_lemmas.Asking.{asked_none}
+use Rattle.row_copy.proofs.copy_rules_lemmas.Walking.{above}
+use Rattle.row_copy.specs.copy_rules.Walks.{todo_in}
 use Rattle.row_copy.specs.declared.stop.Stop.{Stop}
 use Rattle.row_copy.specs.declared.stop.Stop.TheVariants as stop
 use Rattle.row_copy.specs.Reads.{ReadEnds, Reads, RowOut, SaysRows}

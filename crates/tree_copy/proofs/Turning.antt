@@ -11,14 +11,14 @@ use Rattle.outside.specs.declared.vault.GetFail.TheVariants.{Memory, Failed}
 use Rattle.fs_model.specs.declared.attr.Kind.{Kind}
 use Rattle.fs_model.specs.declared.attr.Kind.TheVariants.{Directory}
 use Rattle.fs_model.specs.Tree.{name_cmp, path_cmp}
-use Rattle.host_folder.specs.Folders.{HostRow, HostPath, HostTree, IsHostTree, kind_in}
-use Rattle.copy_rules.specs.declared.copied.Totals.{Totals}
-use Rattle.copy_rules.specs.declared.copied.CopyFail.{CopyFail}
-use Rattle.copy_rules.specs.declared.copied.CopyFail.TheVariants as fail
-use Rattle.copy_rules.specs.Ends.{HostCause, StopCause, text_size}
-use Rattle.copy_rules.specs.Questions.{Asking, LawfulAsker}
-use Rattle.copy_rules.specs.Walks.{Todo, todo_in, HasKinds}
-use Rattle.copy_rules.proofs.Asking.{asked_none}
+use Rattle.row_copy.specs.host_folder.Folders.{HostRow, HostPath, HostTree, IsHostTree, kind_in}
+use Rattle.row_copy.specs.copy_rules.declared.copied.Totals.{Totals}
+use Rattle.row_copy.specs.copy_rules.declared.copied.CopyFail.{CopyFail}
+use Rattle.row_copy.specs.copy_rules.declared.copied.CopyFail.TheVariants as fail
+use Rattle.row_copy.specs.copy_rules.Ends.{HostCause, StopCause, text_size}
+use Rattle.row_copy.specs.copy_rules.Questions.{Asking, LawfulAsker}
+use Rattle.row_copy.specs.copy_rules.Walks.{Todo, todo_in, HasKinds}
+use Rattle.row_copy.proofs.copy_rules_lemmas.Asking.{asked_none}
 use Rattle.row_copy.specs.declared.stop.Stop.{Stop}
 use Rattle.row_copy.specs.declared.stop.Stop.TheVariants as stop
 use Rattle.row_copy.specs.Rows.{RowCopied, FaultsBy, StopsBy, IsPlaced, none_copied}

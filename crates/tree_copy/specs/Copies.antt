@@ -5,14 +5,14 @@ use Rattle.std.specs.declared.option.Option.{Option}
 use Rattle.std.specs.declared.result.Result.{Result}
 use Rattle.std.specs.declared.result.Result.TheVariants.{Ok, Err}
 use Rattle.fs_model.specs.Tree.{path_cmp}
-use Rattle.host_folder.specs.Folders.{HostPath, HostTree}
-use Rattle.copy_rules.specs.declared.copied.Totals.{Totals}
-use Rattle.copy_rules.specs.declared.copied.CopyFail.{CopyFail}
-use Rattle.copy_rules.specs.declared.copied.CopyFail.TheVariants as fail
-use Rattle.copy_rules.specs.Ends.{AreShort, FailsBy, IsImport, counted}
-use Rattle.copy_rules.specs.Importing.{commands_in, ArePlain}
-use Rattle.copy_rules.specs.Questions.{Question, Asking, Asked, AreDone, commands_of}
-use Rattle.copy_rules.specs.Walks.{Met, Todo, IsWalk}
+use Rattle.row_copy.specs.host_folder.Folders.{HostPath, HostTree}
+use Rattle.row_copy.specs.copy_rules.declared.copied.Totals.{Totals}
+use Rattle.row_copy.specs.copy_rules.declared.copied.CopyFail.{CopyFail}
+use Rattle.row_copy.specs.copy_rules.declared.copied.CopyFail.TheVariants as fail
+use Rattle.row_copy.specs.copy_rules.Ends.{AreShort, FailsBy, IsImport, counted}
+use Rattle.row_copy.specs.copy_rules.Importing.{commands_in, ArePlain}
+use Rattle.row_copy.specs.copy_rules.Questions.{Question, Asking, Asked, AreDone, commands_of}
+use Rattle.row_copy.specs.copy_rules.Walks.{Met, Todo, IsWalk}
 use Rattle.row_copy.specs.declared.place.RowPlace.{RowPlace}
 use Rattle.row_copy.specs.declared.stop.Stop.{Stop}
 use Rattle.row_copy.specs.declared.stop.Stop.TheVariants as stop

@@ -7,13 +7,13 @@ use Rattle.std.specs.declared.result.Result.{Result}
 use Rattle.std.specs.declared.result.Result.TheVariants.{Ok, Err}
 use Rattle.fs_model.specs.declared.attr.Kind.{Kind}
 use Rattle.fs_model.specs.Tree.{name_cmp, path_cmp}
-use Rattle.host_folder.specs.Folders.{HostPath, HostTree, kind_in}
-use Rattle.copy_rules.specs.declared.copied.Totals.{Totals}
-use Rattle.copy_rules.specs.declared.copied.CopyFail.{CopyFail}
-use Rattle.copy_rules.specs.Ends.{AreShort}
-use Rattle.copy_rules.specs.Exporting.{AreServed, EndsOut, FailsOut, IsBare, HasRows, IsExport, IsPartOf, OfEach, OnTold, Tells, totals_in}
-use Rattle.copy_rules.specs.Questions.{Question, Asking, Asked}
-use Rattle.copy_rules.specs.Walks.{Met, Todo, IsWalk}
+use Rattle.row_copy.specs.host_folder.Folders.{HostPath, HostTree, kind_in}
+use Rattle.row_copy.specs.copy_rules.declared.copied.Totals.{Totals}
+use Rattle.row_copy.specs.copy_rules.declared.copied.CopyFail.{CopyFail}
+use Rattle.row_copy.specs.copy_rules.Ends.{AreShort}
+use Rattle.row_copy.specs.copy_rules.Exporting.{AreServed, EndsOut, FailsOut, IsBare, HasRows, IsExport, IsPartOf, OfEach, OnTold, Tells, totals_in}
+use Rattle.row_copy.specs.copy_rules.Questions.{Question, Asking, Asked}
+use Rattle.row_copy.specs.copy_rules.Walks.{Met, Todo, IsWalk}
 use Rattle.row_copy.specs.declared.place.RowPlace.{RowPlace}
 use Rattle.row_copy.specs.declared.stop.Stop.{Stop}
 use Rattle.row_copy.specs.Reads.{ReadEnds}

@@ -7,9 +7,9 @@ use Rattle.std.specs.declared.result.Result.{Result}
 use Rattle.std.specs.declared.result.Result.TheVariants.{Ok, Err}
 use Rattle.fs_model.specs.declared.attr.Kind.{Kind}
 use Rattle.fs_model.specs.Tree.{name_cmp}
-use Rattle.host_folder.specs.Folders.{HostPath, HostTree, IsHostTree, kind_in, row_pair}
-use Rattle.copy_rules.specs.Walks.{Todo, todo_in, HasKinds}
-use Rattle.copy_rules.specs.declared.copied.CopyFail.{CopyFail}
+use Rattle.row_copy.specs.host_folder.Folders.{HostPath, HostTree, IsHostTree, kind_in, row_pair}
+use Rattle.row_copy.specs.copy_rules.Walks.{Todo, todo_in, HasKinds}
+use Rattle.row_copy.specs.copy_rules.declared.copied.CopyFail.{CopyFail}
 use Rattle.row_copy.specs.declared.place.RowPlace.{RowPlace}
 use Rattle.tree_copy.specs.declared.levels.Level.{Level}
 

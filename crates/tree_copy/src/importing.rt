@@ -1,14 +1,14 @@
 // A folder of the host, copied into a tree.
 ghost use Rattle.std.specs.Prelude.{◌≡◌};
-ghost use Rattle.copy_rules.specs.Ends.{HostCause, StopCause};
+ghost use Rattle.row_copy.specs.copy_rules.Ends.{HostCause, StopCause};
 ghost use Rattle.tree_copy.specs.Copies.{ImportRun};
 
 use crate::levels::enter;
 use crate::steps::copy_next;
-use copy_rules::{Asker, CopyFail, Totals};
 use fs_model::Path;
-use host_folder::Folder;
 use outside::GetFail;
+use row_copy::copy_rules::{Asker, CopyFail, Totals};
+use row_copy::host_folder::Folder;
 use row_copy::no_totals;
 use std::alloc::Global;
 

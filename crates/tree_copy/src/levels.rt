@@ -1,16 +1,16 @@
 // The directories that a copy is in.
 ghost use Rattle.std.specs.Prelude.{◌≡◌, IfOk, IfSome, OnOk};
 ghost use Rattle.outside.specs.Causes.{GetHasCause};
-ghost use Rattle.host_folder.specs.Folders.{IsHostTree};
+ghost use Rattle.row_copy.specs.host_folder.Folders.{IsHostTree};
 ghost use Rattle.row_copy.specs.Rows.{StopsBy, NeverHost};
 ghost use Rattle.tree_copy.specs.Exports.{TreeEntered};
 ghost use Rattle.tree_copy.specs.Levels.{IsEntered, NextIs};
 
 use block_id::Memory;
-use copy_rules::Asker;
 use fs_model::{Path, RowList};
-use host_folder::Folder;
 use outside::GetFail;
+use row_copy::copy_rules::Asker;
+use row_copy::host_folder::Folder;
 use row_copy::{RowPlace, Stop, ask_rows, child_of, copy_path};
 use std::alloc::Global;
 

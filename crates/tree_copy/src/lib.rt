@@ -9,3 +9,6 @@ mod steps;
 
 pub use exporting::export;
 pub use importing::import;
+
+// Handed on to crates above, which needn't list them.
+pub use row_copy::{copy_rules, host_folder};

@@ -1,15 +1,15 @@
 // One row more of an export.
 ghost use Rattle.std.specs.Prelude.{◌≡◌, ℕ, OnOk};
-ghost use Rattle.copy_rules.specs.Ends.{HostCause, StopCause};
+ghost use Rattle.row_copy.specs.copy_rules.Ends.{HostCause, StopCause};
 ghost use Rattle.tree_copy.specs.Exports.{StepsOut, StepsOutAt, TreeBegun};
 ghost use Rattle.tree_copy.specs.Levels.{IsDeeper};
 
 use crate::levels::{Level, enter_tree, next_row};
 use crate::steps::fail_at;
 use block_id::Memory;
-use copy_rules::{Asker, CopyFail, Totals};
 use fs_model::{Kind, Path};
-use host_folder::Folder;
+use row_copy::copy_rules::{Asker, CopyFail, Totals};
+use row_copy::host_folder::Folder;
 use row_copy::{RowPlace, is_short, row_out};
 use std::alloc::Global;
 

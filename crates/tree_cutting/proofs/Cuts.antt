@@ -5,14 +5,14 @@ use Rattle.std.specs.FinMap.{get}
 use Rattle.std.proofs.lemmas.Bool.{cases_lt, false_from_ne_true, or_cases, or_left, or_parts}
 use Rattle.std.proofs.lemmas.List.{take-append-drop, length-take, length-drop, length-append, take-append-le, drop_at, take_at}
 use Rattle.std.proofs.Math.Seq.{take-append-add}
-use Rattle.store_api.proofs.Rising.{same_id_is}
+use Rattle.data_tree.proofs.store_api_lemmas.Rising.{same_id_is}
 use Rattle.block_id.proofs.Options.{none_is}
 use Rattle.block_id.specs.Contents.{resized}
 use Rattle.block_id.proofs.Contents.{resized_within}
-use Rattle.data_nodes.specs.Layout.{NodeText, leaf, inner, IsNode}
-use Rattle.store_api.specs.declared.tx.Tx.{Tx}
-use Rattle.store_api.specs.Content.{Id, Content, Changes, same_id}
-use Rattle.store_api.specs.Holdings.{Holdings, Stays, has_id}
+use Rattle.data_tree.specs.data_nodes.Layout.{NodeText, leaf, inner, IsNode}
+use Rattle.data_tree.specs.store_api.declared.tx.Tx.{Tx}
+use Rattle.data_tree.specs.store_api.Content.{Id, Content, Changes, same_id}
+use Rattle.data_tree.specs.store_api.Holdings.{Holdings, Stays, has_id}
 use Rattle.data_tree.specs.Trees.{IsTree, Holds, Forest, span, IsDepth, NoDoubles, Replaces}
 use Rattle.data_tree.specs.Needs.{Sets, SetsNode, HasTree, HasTrees, KeepsShape}
 use Rattle.data_tree.specs.Roots.{IsRoot, IsNewRoot}
@@ -20,9 +20,9 @@ use Rattle.data_tree.proofs.Anew.{replaces_then, then_drops}
 use Rattle.data_tree.proofs.Changes.{tree_frame, trees_frame}
 use Rattle.data_tree.proofs.Forests.{leaf_ids, leaf_is}
 use Rattle.data_tree.proofs.Ids.{in_left, in_one, not_both, apart, apart_right, alone-parts, drops_more, drops_one, other, same_self}
-use Rattle.store_api.proofs.Ids.{has-append}
+use Rattle.data_tree.proofs.store_api_lemmas.Ids.{has-append}
 use Rattle.data_tree.proofs.Levels.{span-grows, too_deep}
-use Rattle.store_api.specs.Txs.{tx_holdings}
+use Rattle.data_tree.specs.store_api.Txs.{tx_holdings}
 use Rattle.data_tree.proofs.Making.{alone-join, forest_more, trees_there}
 use Rattle.data_tree.proofs.Puts.{was_there}
 use Rattle.data_tree.proofs.Borders.{border_on, border_top, replace_part, replaces_put, holds_inner, holds_leaf}

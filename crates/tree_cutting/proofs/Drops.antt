@@ -2,10 +2,10 @@
 use Rattle.std.proofs.Common.{◌≡◌, sym, ◌∙◌, true}
 use Rattle.std.specs.Prelude.{is_some}
 use Rattle.std.specs.FinMap.{get}
-use Rattle.store_api.specs.declared.tx.Tx.{Tx}
-use Rattle.store_api.specs.Content.{Id}
-use Rattle.store_api.specs.Holdings.{Holdings, Stays}
-use Rattle.store_api.specs.Txs.{LoadsBelow, content_of, tx_holdings}
+use Rattle.data_tree.specs.store_api.declared.tx.Tx.{Tx}
+use Rattle.data_tree.specs.store_api.Content.{Id}
+use Rattle.data_tree.specs.store_api.Holdings.{Holdings, Stays}
+use Rattle.data_tree.specs.store_api.Txs.{LoadsBelow, content_of, tx_holdings}
 use Rattle.data_tree.specs.Leaving.{DropsBlocks, PutsOne}
 use Rattle.data_tree.proofs.Puts.{below_same, was_there}
 use Rattle.tree_cutting.proofs.Cuts.{fewer_put}

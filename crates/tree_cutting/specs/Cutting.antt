@@ -1,10 +1,10 @@
 -- The right border of a tree, and the leaf at a place of it.
 use Rattle.std.specs.Prelude.{◌≡◌, ◌⊎◌, ◌≤◌, ℕ, true, List, is_some, false, length}
 use Rattle.std.specs.FinMap.{get}
-use Rattle.data_nodes.specs.Layout.{NodeText}
-use Rattle.store_api.specs.Content.{Id, Content, Changes}
+use Rattle.data_tree.specs.data_nodes.Layout.{NodeText}
+use Rattle.data_tree.specs.store_api.Content.{Id, Content, Changes}
 use Rattle.data_tree.specs.Trees.{IsTree, NoDoubles, Replaces}
-use Rattle.store_api.specs.Holdings.{Holdings, has_id}
+use Rattle.data_tree.specs.store_api.Holdings.{Holdings, has_id}
 use Rattle.data_tree.specs.Needs.{HasTree, HasTrees, HasBelow}
 use Rattle.data_tree.specs.Border.{OnBorder}
 

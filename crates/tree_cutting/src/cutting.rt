@@ -1,10 +1,10 @@
 // Cutting a tree: only the new right border is put, and what stood behind it is dropped.
 ghost use Rattle.std.specs.Prelude.{◌≡◌, ◌≤◌, ◌<◌, ◌+◌, ◌∷◌, true, is_some, length, take, false, None};
 ghost use Rattle.std.specs.FinMap.{get};
-ghost use Rattle.outcome.specs.Outcome.{Outcome};
-ghost use Rattle.store_api.specs.Content.{Id, same_id};
-ghost use Rattle.store_api.specs.Txs.{content_of, intact_in, tx_holdings, tx_meanings};
-ghost use Rattle.data_nodes.specs.Layout.{fan_out, ids_of, leaf, node_of, FitsPayload};
+ghost use Rattle.data_tree.specs.outcome.Outcome.{Outcome};
+ghost use Rattle.data_tree.specs.store_api.Content.{Id, same_id};
+ghost use Rattle.data_tree.specs.store_api.Txs.{content_of, intact_in, tx_holdings, tx_meanings};
+ghost use Rattle.data_tree.specs.data_nodes.Layout.{fan_out, ids_of, leaf, node_of, FitsPayload};
 ghost use Rattle.data_tree.specs.Leaving.{DropsBlocks};
 ghost use Rattle.data_tree.specs.Needs.{Sets, SetsNode};
 ghost use Rattle.data_tree.specs.Roots.{IsAtLevel};
@@ -12,10 +12,10 @@ ghost use Rattle.data_tree.specs.Trees.{span, IsDepth};
 ghost use Rattle.tree_cutting.specs.Cutting.{OnlyBorder, IsCut, MayCut, MayCutNode, MayCutTrees};
 
 use block_id::{BlockId, Fail, Why};
-use data_nodes::Node;
+use data_tree::data_nodes::Node;
+use data_tree::store_api::{Blocks, Tx};
 use data_tree::{Level, drop_children, load_at, put_node, remove};
 use std::alloc::Global;
-use store_api::{Blocks, Tx};
 
 /// Cuts a leaf to so many bytes.
 fn cut_leaf<S: Blocks>(

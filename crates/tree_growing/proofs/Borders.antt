@@ -3,20 +3,20 @@ use Rattle.std.proofs.Common.{◌≡◌, ◌⊎◌, ℕ, zero, suc, ◌+◌, ◌
 use Rattle.std.specs.Prelude.{Some, is_some, Ok}
 use Rattle.std.specs.FinMap.{get}
 use Rattle.std.proofs.lemmas.List.{take-append-drop}
-use Rattle.store_api.proofs.Rising.{same_id_is}
-use Rattle.outcome.specs.Meanings.{Meanings, Lawful}
-use Rattle.outcome.specs.Outcome.{Outcome}
+use Rattle.data_tree.proofs.store_api_lemmas.Rising.{same_id_is}
+use Rattle.data_tree.specs.outcome.Meanings.{Meanings, Lawful}
+use Rattle.data_tree.specs.outcome.Outcome.{Outcome}
 use Rattle.block_id.specs.declared.id.BlockId.{BlockId}
-use Rattle.data_nodes.specs.declared.node.Node.{Node}
-use Rattle.data_nodes.specs.Layout.{NodeText, inner, IsNode, ids_of, node_of}
-use Rattle.store_api.specs.declared.tx.Tx.{Tx}
-use Rattle.store_api.specs.Content.{Id, Content, Changes, same_id}
-use Rattle.store_api.specs.Holdings.{Holdings, Stays}
+use Rattle.data_tree.specs.data_nodes.declared.node.Node.{Node}
+use Rattle.data_tree.specs.data_nodes.Layout.{NodeText, inner, IsNode, ids_of, node_of}
+use Rattle.data_tree.specs.store_api.declared.tx.Tx.{Tx}
+use Rattle.data_tree.specs.store_api.Content.{Id, Content, Changes, same_id}
+use Rattle.data_tree.specs.store_api.Holdings.{Holdings, Stays}
 use Rattle.data_tree.specs.Trees.{depth_in}
 use Rattle.data_tree.specs.Needs.{HasTree, HasTrees, HasBelow}
 use Rattle.data_tree.proofs.Forests.{below_on, below_of}
 use Rattle.data_tree.proofs.Borders.{border_top}
-use Rattle.store_api.specs.Txs.{tx_holdings, tx_meanings}
+use Rattle.data_tree.specs.store_api.Txs.{tx_holdings, tx_meanings}
 use Rattle.data_tree.proofs.Puts.{unforged_before}
 use Rattle.data_tree.specs.Border.{OnBorder, OnBorderBelow, OnLastBorder}
 use Rattle.tree_growing.proofs.Growth.{last_id, last_alone, split_of, split_tree}

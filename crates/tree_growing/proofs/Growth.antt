@@ -7,13 +7,13 @@ use Rattle.std.proofs.Math.Seq.{take-append-add}
 use Rattle.block_id.specs.declared.fail.Fail.{Fail}
 use Rattle.block_id.specs.declared.id.BlockId.{BlockId}
 use Rattle.block_id.proofs.Options.{none_is}
-use Rattle.outcome.specs.Meanings.{Meanings, Lawful}
-use Rattle.outcome.specs.Outcome.{Outcome, first_, then_}
-use Rattle.data_nodes.specs.declared.node.Node.{Node}
-use Rattle.data_nodes.specs.Layout.{NodeText, leaf, inner, ids_of, node_of}
-use Rattle.store_api.specs.declared.tx.Tx.{Tx}
-use Rattle.store_api.specs.Content.{Id, Content, same_id}
-use Rattle.store_api.specs.Holdings.{Holdings, Stays, has_id}
+use Rattle.data_tree.specs.outcome.Meanings.{Meanings, Lawful}
+use Rattle.data_tree.specs.outcome.Outcome.{Outcome, first_, then_}
+use Rattle.data_tree.specs.data_nodes.declared.node.Node.{Node}
+use Rattle.data_tree.specs.data_nodes.Layout.{NodeText, leaf, inner, ids_of, node_of}
+use Rattle.data_tree.specs.store_api.declared.tx.Tx.{Tx}
+use Rattle.data_tree.specs.store_api.Content.{Id, Content, same_id}
+use Rattle.data_tree.specs.store_api.Holdings.{Holdings, Stays, has_id}
 use Rattle.data_tree.specs.Trees.{IsTree, Holds, Forest, span, NoDoubles, Replaces}
 use Rattle.data_tree.specs.Needs.{SetsNode, HasTree, HasTrees, HasBelow, KeepsShape, BuiltTrees}
 use Rattle.data_tree.proofs.Ids.{same_self, apart, alone-parts, other}
@@ -23,7 +23,7 @@ use Rattle.data_tree.proofs.Anew.{replaces_then}
 use Rattle.data_tree.proofs.Forests.{below_on, below_of, holds-length}
 use Rattle.data_tree.proofs.Gathering.{last_child}
 use Rattle.data_tree.proofs.Levels.{span-some}
-use Rattle.store_api.specs.Txs.{tx_holdings, tx_meanings}
+use Rattle.data_tree.specs.store_api.Txs.{tx_holdings, tx_meanings}
 use Rattle.data_tree.proofs.Borders.{holds_leaf, holds_inner, Split, one_more, forest_split, replace_part, replaces_put}
 use Rattle.tree_growing.specs.Growing.{Grown, GrownTrees}
 

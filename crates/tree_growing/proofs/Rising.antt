@@ -5,10 +5,10 @@ use Rattle.std.proofs.lemmas.Bool.{cases_lt, or_cases, or_parts}
 use Rattle.std.proofs.lemmas.List.{take-append-drop, length-append, length-take, length-drop, take_all, drop_all}
 use Rattle.std.proofs.Math.Nat.{mul-le-mul_right}
 use Rattle.std.proofs.Math.Pow.{pow-lt}
-use Rattle.store_api.proofs.Rising.{same_id_is}
-use Rattle.data_nodes.specs.Layout.{NodeText, inner, fan_out}
-use Rattle.store_api.specs.Content.{Id, Content, same_id}
-use Rattle.store_api.specs.Holdings.{Holdings, has_id}
+use Rattle.data_tree.proofs.store_api_lemmas.Rising.{same_id_is}
+use Rattle.data_tree.specs.data_nodes.Layout.{NodeText, inner, fan_out}
+use Rattle.data_tree.specs.store_api.Content.{Id, Content, same_id}
+use Rattle.data_tree.specs.store_api.Holdings.{Holdings, has_id}
 use Rattle.data_tree.specs.Trees.{IsTree, Holds, Forest, IsDepth, span, NoDoubles, Replaces}
 use Rattle.data_tree.specs.Needs.{Sets, SetsNode, KeepsShape, BuiltTrees}
 use Rattle.data_tree.proofs.Anew.{came_none, replaces_then}

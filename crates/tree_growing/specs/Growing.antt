@@ -1,9 +1,9 @@
 -- Nodes that grow.
 use Rattle.std.specs.Prelude.{◌≡◌, ◌≤◌, ◌<◌, ◌+◌, ◌*◌, ◌++◌, ℕ, List, length, take, min}
 use Rattle.block_id.specs.declared.id.BlockId.{BlockId}
-use Rattle.data_nodes.specs.Layout.{NodeText, FitsPayload, fan_out, ids_of}
-use Rattle.store_api.specs.Content.{Id}
-use Rattle.store_api.specs.Holdings.{Holdings}
+use Rattle.data_tree.specs.data_nodes.Layout.{NodeText, FitsPayload, fan_out, ids_of}
+use Rattle.data_tree.specs.store_api.Content.{Id}
+use Rattle.data_tree.specs.store_api.Holdings.{Holdings}
 use Rattle.data_tree.specs.declared.level.Level.{Level}
 use Rattle.data_tree.specs.Needs.{BuiltTrees}
 use Rattle.data_tree.specs.Trees.{Holds, Forest, IsTree, IsDepth, span, NoDoubles, Replaces}

@@ -1,10 +1,10 @@
 // Appending bytes to a tree: only its right border is loaded, and new blocks stand behind it.
 ghost use Rattle.std.specs.Prelude.{◌≡◌, ◌⊎◌, ◌≤◌, ◌<◌, ◌+◌, ◌-◌, ◌*◌, ◌++◌, ◌^◌, ℕ, List, true, is_some, length, take, min, IfOk, OnOk};
 ghost use Rattle.std.specs.FinMap.{get};
-ghost use Rattle.outcome.specs.Outcome.{Outcome};
-ghost use Rattle.store_api.specs.Content.{Id};
-ghost use Rattle.store_api.specs.Txs.{content_of, intact_in, tx_holdings, tx_meanings};
-ghost use Rattle.data_nodes.specs.Layout.{fan_out, ids_of, leaf, node_of};
+ghost use Rattle.data_tree.specs.outcome.Outcome.{Outcome};
+ghost use Rattle.data_tree.specs.store_api.Content.{Id};
+ghost use Rattle.data_tree.specs.store_api.Txs.{content_of, intact_in, tx_holdings, tx_meanings};
+ghost use Rattle.data_tree.specs.data_nodes.Layout.{fan_out, ids_of, leaf, node_of};
 ghost use Rattle.data_tree.specs.Leaving.{AddsBlocks, KeepsBlocks};
 ghost use Rattle.data_tree.specs.Needs.{HasBelow, HasTrees};
 ghost use Rattle.data_tree.specs.Roots.{IsAtLevel};
@@ -13,10 +13,10 @@ ghost use Rattle.data_tree.specs.Border.{OnBorderBelow, OnLastBorder};
 ghost use Rattle.tree_growing.specs.Growing.{ChildrenTake, Grown, GrownChildren, GrownTrees, IsChildCount, TakesBytes};
 
 use block_id::{BlockId, Fail, Memory};
-use data_nodes::Node;
+use data_tree::data_nodes::Node;
+use data_tree::store_api::{Blocks, Tx};
 use data_tree::{Level, build_children, load_at, put_node};
 use std::alloc::Global;
-use store_api::{Blocks, Tx};
 
 /// A leaf with as many of the bytes behind its own as it has room for, and how many these are.
 fn grown_leaf(alloc: Global, old: &[u8], room: u64, bytes: &[u8]) -> Result<(Node, usize), Memory>

@@ -1,18 +1,18 @@
 // A tree whose depth rises: its node moves under a new id, and new trees stand beside it.
 ghost use Rattle.std.specs.Prelude.{◌≡◌, ◌≤◌, ◌<◌, ◌+◌, ◌*◌, ◌++◌, ◌^◌, length, IfOk};
 ghost use Rattle.block_id.specs.declared.sizes.TheConstants.{MIN_PAYLOAD, MAX_BLOCK};
-ghost use Rattle.store_api.specs.Txs.{intact_in, tx_holdings};
-ghost use Rattle.data_nodes.specs.Layout.{fan_out, node_of, FitsPayload};
+ghost use Rattle.data_tree.specs.store_api.Txs.{intact_in, tx_holdings};
+ghost use Rattle.data_tree.specs.data_nodes.Layout.{fan_out, node_of, FitsPayload};
 ghost use Rattle.data_tree.specs.Leaving.{AddsBlocks};
 ghost use Rattle.data_tree.specs.Trees.{span};
 ghost use Rattle.tree_growing.specs.Growing.{MayGrow, Raised, TakesBytes};
 
 use crate::growing::grown_children;
 use block_id::{BlockId, Memory};
-use data_nodes::Node;
+use data_tree::data_nodes::Node;
+use data_tree::store_api::{Blocks, Tx};
 use data_tree::{Level, put_new};
 use std::alloc::Global;
-use store_api::{Blocks, Tx};
 
 /// The level above, where blocks have payloads of this length.
 fn above(level: Level, payload: usize) -> Level

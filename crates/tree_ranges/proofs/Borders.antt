@@ -3,24 +3,24 @@ use Rattle.std.proofs.Common.{◌≡◌, ◌⊎◌, ℕ, ◌+◌, ◌<◌, ◌�
 use Rattle.std.specs.Prelude.{Some, is_some, Ok}
 use Rattle.std.specs.FinMap.{get}
 use Rattle.std.proofs.lemmas.Option.{same_Some}
-use Rattle.outcome.specs.Meanings.{Meanings, Lawful}
-use Rattle.outcome.specs.Outcome.{Outcome}
-use Rattle.data_nodes.specs.declared.node.Node.{Node}
-use Rattle.data_nodes.specs.Layout.{leaf, inner, IsNode, node_of}
-use Rattle.data_nodes.proofs.Laws.{one_node}
-use Rattle.store_api.specs.declared.tx.Tx.{Tx}
-use Rattle.store_api.specs.Content.{Id, Content, Changes, or_else}
-use Rattle.store_api.specs.Holdings.{Holdings, Stays, has_id}
-use Rattle.data_tree.specs.Trees.{depth_in}
-use Rattle.data_tree.specs.Needs.{HasTree, HasBelow}
-use Rattle.data_tree.specs.Roots.{IsRoot}
-use Rattle.data_tree.proofs.Forests.{below_on, below_root}
-use Rattle.store_api.specs.Txs.{tx_holdings, tx_meanings}
-use Rattle.data_tree.proofs.Puts.{unforged_before}
+use Rattle.tree_calls.specs.outcome.Meanings.{Meanings, Lawful}
+use Rattle.tree_calls.specs.outcome.Outcome.{Outcome}
+use Rattle.tree_calls.specs.data_nodes.declared.node.Node.{Node}
+use Rattle.tree_calls.specs.data_nodes.Layout.{leaf, inner, IsNode, node_of}
+use Rattle.tree_calls.proofs.data_nodes_lemmas.Laws.{one_node}
+use Rattle.tree_calls.specs.store_api.declared.tx.Tx.{Tx}
+use Rattle.tree_calls.specs.store_api.Content.{Id, Content, Changes, or_else}
+use Rattle.tree_calls.specs.store_api.Holdings.{Holdings, Stays, has_id}
+use Rattle.tree_calls.specs.data_tree.Trees.{depth_in}
+use Rattle.tree_calls.specs.data_tree.Needs.{HasTree, HasBelow}
+use Rattle.tree_calls.specs.data_tree.Roots.{IsRoot}
+use Rattle.tree_calls.proofs.data_tree_lemmas.Forests.{below_on, below_root}
+use Rattle.tree_calls.specs.store_api.Txs.{tx_holdings, tx_meanings}
+use Rattle.tree_calls.proofs.data_tree_lemmas.Puts.{unforged_before}
 use Rattle.tree_ranges.specs.Border.{Grew}
 use Rattle.tree_ranges.proofs.Inside.{root_depth}
-use Rattle.data_tree.proofs.Borders.{border_on}
-use Rattle.data_tree.specs.Border.{OnBorder, OnBorderBelow}
+use Rattle.tree_calls.proofs.data_tree_lemmas.Borders.{border_on}
+use Rattle.tree_calls.specs.data_tree.Border.{OnBorder, OnBorderBelow}
 use Rattle.tree_growing.proofs.Borders.{border_up}
 use Rattle.tree_writing.proofs.Leaves.{leaf_of}
 use Rattle.tree_writing.specs.Leaves.{OnlyLeaves, LeafAt}

@@ -5,16 +5,16 @@ use Rattle.std.specs.FinMap.{get}
 use Rattle.std.proofs.Math.Nat.{lt-div-mul-add}
 use Rattle.block_id.specs.Contents.{pieces, resized, written}
 use Rattle.block_id.proofs.Contents.{resized_within, overwritten_within}
-use Rattle.data_nodes.specs.Layout.{NodeText}
-use Rattle.store_api.specs.declared.tx.Tx.{Tx}
-use Rattle.store_api.specs.Content.{Id, SameIds, or_else}
-use Rattle.store_api.specs.Holdings.{Holdings, Stays}
-use Rattle.data_tree.specs.Trees.{IsTree, Holds, IsDepth, Replaces, depth_in}
-use Rattle.data_tree.proofs.Forests.{root_at}
-use Rattle.data_tree.specs.Needs.{HasTree, KeepsShape}
-use Rattle.data_tree.specs.Roots.{IsRoot, IsNewRoot}
-use Rattle.store_api.specs.Txs.{tx_holdings}
-use Rattle.data_tree.proofs.Loads.{holds-depth}
+use Rattle.tree_calls.specs.data_nodes.Layout.{NodeText}
+use Rattle.tree_calls.specs.store_api.declared.tx.Tx.{Tx}
+use Rattle.tree_calls.specs.store_api.Content.{Id, SameIds, or_else}
+use Rattle.tree_calls.specs.store_api.Holdings.{Holdings, Stays}
+use Rattle.tree_calls.specs.data_tree.Trees.{IsTree, Holds, IsDepth, Replaces, depth_in}
+use Rattle.tree_calls.proofs.data_tree_lemmas.Forests.{root_at}
+use Rattle.tree_calls.specs.data_tree.Needs.{HasTree, KeepsShape}
+use Rattle.tree_calls.specs.data_tree.Roots.{IsRoot, IsNewRoot}
+use Rattle.tree_calls.specs.store_api.Txs.{tx_holdings}
+use Rattle.tree_calls.proofs.data_tree_lemmas.Loads.{holds-depth}
 use Rattle.tree_writing.proofs.Leaves.{leaf_of}
 use Rattle.tree_writing.proofs.Overwriting.{length-written}
 use Rattle.tree_writing.specs.Leaves.{OnlyLeaves}

@@ -4,25 +4,25 @@ use Rattle.std.specs.Prelude.{Some, is_some, Result, Ok}
 use Rattle.std.proofs.lemmas.Bool.{cases_lt, or_left}
 use Rattle.std.proofs.lemmas.List.{take-append-drop, length-take, length-drop, length-append, drop_all}
 use Rattle.block_id.specs.declared.fail.Fail.{Fail}
-use Rattle.outcome.specs.Meanings.{Meanings, Lawful}
-use Rattle.outcome.specs.Outcome.{Outcome, first_, then_}
-use Rattle.data_nodes.specs.declared.node.Node.{Node}
-use Rattle.data_nodes.specs.Layout.{NodeText, FitsPayload, node_of}
-use Rattle.store_api.specs.declared.tx.Tx.{Tx}
-use Rattle.store_api.specs.Content.{Id, same_id}
-use Rattle.store_api.specs.Holdings.{Holdings, Stays, has_id}
-use Rattle.data_tree.specs.declared.level.Level.{Level}
-use Rattle.data_tree.specs.Trees.{Holds, span, IsDepth, NoDoubles, Replaces, depth_in}
-use Rattle.data_tree.specs.Needs.{HasBelow, SetsNode, KeepsShape}
-use Rattle.data_tree.specs.Roots.{IsRoot, IsNewRoot}
-use Rattle.data_tree.proofs.Ids.{same_self, other}
-use Rattle.data_tree.proofs.Changes.{holds_frame}
-use Rattle.data_tree.proofs.Anew.{replaces_then}
-use Rattle.data_tree.proofs.Forests.{below_on, below_root, holds-fits}
-use Rattle.store_api.specs.Txs.{tx_holdings, tx_meanings}
+use Rattle.tree_calls.specs.outcome.Meanings.{Meanings, Lawful}
+use Rattle.tree_calls.specs.outcome.Outcome.{Outcome, first_, then_}
+use Rattle.tree_calls.specs.data_nodes.declared.node.Node.{Node}
+use Rattle.tree_calls.specs.data_nodes.Layout.{NodeText, FitsPayload, node_of}
+use Rattle.tree_calls.specs.store_api.declared.tx.Tx.{Tx}
+use Rattle.tree_calls.specs.store_api.Content.{Id, same_id}
+use Rattle.tree_calls.specs.store_api.Holdings.{Holdings, Stays, has_id}
+use Rattle.tree_calls.specs.data_tree.declared.level.Level.{Level}
+use Rattle.tree_calls.specs.data_tree.Trees.{Holds, span, IsDepth, NoDoubles, Replaces, depth_in}
+use Rattle.tree_calls.specs.data_tree.Needs.{HasBelow, SetsNode, KeepsShape}
+use Rattle.tree_calls.specs.data_tree.Roots.{IsRoot, IsNewRoot}
+use Rattle.tree_calls.proofs.data_tree_lemmas.Ids.{same_self, other}
+use Rattle.tree_calls.proofs.data_tree_lemmas.Changes.{holds_frame}
+use Rattle.tree_calls.proofs.data_tree_lemmas.Anew.{replaces_then}
+use Rattle.tree_calls.proofs.data_tree_lemmas.Forests.{below_on, below_root, holds-fits}
+use Rattle.tree_calls.specs.store_api.Txs.{tx_holdings, tx_meanings}
 use Rattle.block_id.specs.Contents.{written, zeros}
 use Rattle.tree_ranges.specs.Ranges.{GrowsTo}
-use Rattle.data_tree.proofs.Borders.{replace_part, replaces_put}
+use Rattle.tree_calls.proofs.data_tree_lemmas.Borders.{replace_part, replaces_put}
 use Rattle.tree_growing.proofs.Growth.{off_the_new}
 use Rattle.tree_growing.proofs.Rising.{more_than, grown_then}
 use Rattle.tree_growing.specs.Growing.{Grown, MayGrow, Raised}

@@ -3,9 +3,9 @@ use Rattle.std.specs.Prelude.{◌≡◌, ◌⊎◌, ◌<◌, ◌≤◌, ◌+◌,
 use Rattle.std.specs.FinMap as fin
 use Rattle.std.specs.FinMap.{get}
 use Rattle.block_id.specs.Contents.{pieces}
-use Rattle.data_nodes.specs.Layout.{room}
-use Rattle.store_api.specs.Content.{Id, Content, Changes, SameIds}
-use Rattle.data_tree.specs.Border.{OnBorder}
+use Rattle.tree_calls.specs.data_nodes.Layout.{room}
+use Rattle.tree_calls.specs.store_api.Content.{Id, Content, Changes, SameIds}
+use Rattle.tree_calls.specs.data_tree.Border.{OnBorder}
 use Rattle.tree_cutting.specs.Cutting.{OnlyBorder}
 use Rattle.tree_writing.specs.Leaves.{LeafAt, OnlyLeaves}
 

@@ -1,8 +1,8 @@
 -- What a call on a range needs, and what it leaves.
 use Rattle.std.specs.Prelude.{◌≡◌, ◌≤◌, ◌<◌, ◌+◌, ℕ, true, length}
-use Rattle.store_api.specs.Content.{Id}
-use Rattle.store_api.specs.Holdings.{Holdings}
-use Rattle.data_tree.specs.Roots.{IsRoot}
+use Rattle.tree_calls.specs.store_api.Content.{Id}
+use Rattle.tree_calls.specs.store_api.Holdings.{Holdings}
+use Rattle.tree_calls.specs.data_tree.Roots.{IsRoot}
 
 -- n bytes from a place on, at least one, lie inside the tree of this root
 pub record IsInside {S : Type 0} (H : Holdings S) (s : S) (root : Id) (from n : ℕ) : Type 0 where

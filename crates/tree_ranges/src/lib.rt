@@ -6,3 +6,6 @@ mod over;
 mod ranges;
 
 pub use ranges::{resize, write_range};
+
+// Handed on to crates above, which needn't list them.
+pub use tree_calls;

@@ -2,21 +2,21 @@
 ghost use Rattle.std.specs.Prelude.{◌≡◌, ◌⊎◌, ◌≤◌, ◌<◌, ◌+◌, ◌++◌, ◌^◌, true, is_some, length, IfOk};
 ghost use Rattle.std.specs.FinMap.{get};
 ghost use Rattle.block_id.specs.Contents.{written, zeros};
-ghost use Rattle.outcome.specs.Outcome.{Outcome};
-ghost use Rattle.store_api.specs.Content.{Id};
-ghost use Rattle.store_api.specs.Holdings.{Stays};
-ghost use Rattle.store_api.specs.Txs.{content_of, intact_in, tx_holdings, tx_meanings};
-ghost use Rattle.data_tree.specs.Leaving.{KeepsBlocks};
-ghost use Rattle.data_tree.specs.Roots.{IsRoot, IsNewRoot};
-ghost use Rattle.data_tree.specs.Trees.{span};
+ghost use Rattle.tree_calls.specs.outcome.Outcome.{Outcome};
+ghost use Rattle.tree_calls.specs.store_api.Content.{Id};
+ghost use Rattle.tree_calls.specs.store_api.Holdings.{Stays};
+ghost use Rattle.tree_calls.specs.store_api.Txs.{content_of, intact_in, tx_holdings, tx_meanings};
+ghost use Rattle.tree_calls.specs.data_tree.Leaving.{KeepsBlocks};
+ghost use Rattle.tree_calls.specs.data_tree.Roots.{IsRoot, IsNewRoot};
+ghost use Rattle.tree_calls.specs.data_tree.Trees.{span};
 ghost use Rattle.tree_ranges.specs.Border.{Grew};
-ghost use Rattle.data_tree.specs.Border.{OnBorder};
+ghost use Rattle.tree_calls.specs.data_tree.Border.{OnBorder};
 ghost use Rattle.tree_ranges.specs.Ranges.{GrowsTo, IsOpened};
 
 use block_id::{BlockId, Fail, Memory, Why};
-use data_tree::{Level, load_root, put_node};
 use std::alloc::Global;
-use store_api::{Blocks, Tx};
+use tree_calls::data_tree::{Level, load_root, put_node};
+use tree_calls::store_api::{Blocks, Tx};
 use tree_growing::{grown_node, raised};
 use tree_writing::write_below;
 

@@ -1,23 +1,23 @@
 // The calls that change a range of a tree.
 ghost use Rattle.std.specs.Prelude.{◌≡◌, ◌≤◌, ◌<◌, ◌+◌, ◌^◌, ℕ, true, is_some, length, IfOk, OnOk};
 ghost use Rattle.block_id.specs.Contents.{resized, written};
-ghost use Rattle.outcome.specs.Outcome.{Outcome};
-ghost use Rattle.store_api.specs.Content.{Id};
-ghost use Rattle.store_api.specs.Holdings.{Stays};
-ghost use Rattle.store_api.specs.Txs.{LoadsBelow, content_of, intact_in, tx_holdings, tx_meanings};
-ghost use Rattle.data_nodes.specs.Layout.{node_of};
-ghost use Rattle.data_tree.specs.Roots.{IsAtLevel, IsRoot, IsNewRoot, IsTooDeep};
-ghost use Rattle.data_tree.specs.Trees.{IsDepth, span, depth_in};
+ghost use Rattle.tree_calls.specs.outcome.Outcome.{Outcome};
+ghost use Rattle.tree_calls.specs.store_api.Content.{Id};
+ghost use Rattle.tree_calls.specs.store_api.Holdings.{Stays};
+ghost use Rattle.tree_calls.specs.store_api.Txs.{LoadsBelow, content_of, intact_in, tx_holdings, tx_meanings};
+ghost use Rattle.tree_calls.specs.data_nodes.Layout.{node_of};
+ghost use Rattle.tree_calls.specs.data_tree.Roots.{IsAtLevel, IsRoot, IsNewRoot, IsTooDeep};
+ghost use Rattle.tree_calls.specs.data_tree.Trees.{IsDepth, span, depth_in};
 ghost use Rattle.tree_ranges.specs.Border.{Grew, Shrank, WroteInside};
 ghost use Rattle.tree_ranges.specs.Ranges.{HasAtLeast, IsInside, ReachesPast};
 
 use crate::over::{after_zeros, append, write_over};
 use block_id::{BlockId, Fail};
-use data_nodes::Node;
-use data_tree::{Level, level_for, load_root};
 use std::alloc::Global;
-use store_api::{Blocks, Tx};
+use tree_calls::data_nodes::Node;
+use tree_calls::data_tree::{Level, level_for, load_root};
 use tree_calls::len_in;
+use tree_calls::store_api::{Blocks, Tx};
 use tree_cutting::cut_root;
 use tree_writing::write_in;
 

@@ -7,12 +7,12 @@ use Rattle.std.proofs.lemmas.Nat.{div-mul-add, mod-mul-add}
 use Rattle.std.proofs.Math.Nat.{div-add-mod', mod-lt}
 use Rattle.std.proofs.lemmas.Bool.{or_left, or_right}
 use Rattle.std.proofs.lemmas.Option.{same_Some}
-use Rattle.store_api.proofs.Rising.{same_id_is}
-use Rattle.data_nodes.specs.Layout.{leaf, inner, IsNode}
-use Rattle.store_api.specs.Content.{Id, Content, Changes, same_id}
-use Rattle.store_api.specs.Holdings.{Holdings, Stays, has_id}
+use Rattle.data_tree.proofs.store_api_lemmas.Rising.{same_id_is}
+use Rattle.data_tree.specs.data_nodes.Layout.{leaf, inner, IsNode}
+use Rattle.data_tree.specs.store_api.Content.{Id, Content, Changes, same_id}
+use Rattle.data_tree.specs.store_api.Holdings.{Holdings, Stays, has_id}
 use Rattle.data_tree.specs.Trees.{IsTree, Forest, span}
-use Rattle.data_nodes.proofs.Laws.{one_node}
+use Rattle.data_tree.proofs.data_nodes_lemmas.Laws.{one_node}
 use Rattle.data_tree.proofs.Ids.{in_left, in_right, same_self}
 use Rattle.data_tree.proofs.Levels.{span-some}
 use Rattle.tree_writing.specs.Leaves.{LeafAt, LeafAmong, OnlyLeaves, OnlyAmong}

@@ -4,9 +4,9 @@ use Rattle.std.specs.Prelude.{Option, Some, min}
 use Rattle.std.proofs.lemmas.Bool.{cases_lt, or_parts}
 use Rattle.std.proofs.lemmas.List.{take-append-drop, length-take, length-drop, length-append, take-append-le, drop-append-le, drop_all, nil_from_length}
 use Rattle.std.proofs.Math.Seq.{take-append-add, drop-append-add}
-use Rattle.data_nodes.specs.Layout.{NodeText, leaf, inner, IsNode}
-use Rattle.store_api.specs.Content.{Id, Content, same_id}
-use Rattle.store_api.specs.Holdings.{Holdings, Stays, has_id}
+use Rattle.data_tree.specs.data_nodes.Layout.{NodeText, leaf, inner, IsNode}
+use Rattle.data_tree.specs.store_api.Content.{Id, Content, same_id}
+use Rattle.data_tree.specs.store_api.Holdings.{Holdings, Stays, has_id}
 use Rattle.data_tree.specs.Trees.{IsTree, Holds, Forest, span, NoDoubles, depth_in}
 use Rattle.data_tree.specs.Needs.{Sets, HasTree, HasTrees, KeepsShape}
 use Rattle.data_tree.proofs.Ids.{in_left, not_both, same_self, alone-parts, apart, apart_right}

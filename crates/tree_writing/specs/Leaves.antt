@@ -2,8 +2,8 @@
 use Rattle.std.specs.Prelude.{◌≡◌, ◌⊎◌, ◌+◌, ◌<◌, ◌≤◌, ◌/◌, ◌%◌, ℕ, zero, suc, List, [], Some}
 use Rattle.std.proofs.Common.{get_or}
 use Rattle.std.specs.FinMap.{get}
-use Rattle.data_nodes.specs.Layout.{inner, IsNode}
-use Rattle.store_api.specs.Content.{Id, Content, Changes}
+use Rattle.data_tree.specs.data_nodes.Layout.{inner, IsNode}
+use Rattle.data_tree.specs.store_api.Content.{Id, Content, Changes}
 use Rattle.data_tree.specs.Trees.{span}
 
 -- the leaf that holds a place of the tree below this id

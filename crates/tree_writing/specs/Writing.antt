@@ -1,8 +1,8 @@
 -- Writing inside the length of a tree.
 use Rattle.std.specs.Prelude.{◌≡◌, ◌⊎◌, ◌≤◌, ◌<◌, ◌+◌, ◌*◌, ℕ, false, List, ◌++◌, length, take, drop}
-use Rattle.data_nodes.specs.Layout.{NodeText}
-use Rattle.store_api.specs.Content.{Id}
-use Rattle.store_api.specs.Holdings.{Holdings, has_id}
+use Rattle.data_tree.specs.data_nodes.Layout.{NodeText}
+use Rattle.data_tree.specs.store_api.Content.{Id}
+use Rattle.data_tree.specs.store_api.Holdings.{Holdings, has_id}
 use Rattle.data_tree.specs.Trees.{IsTree, Forest, span}
 use Rattle.data_tree.specs.Needs.{HasTree, HasTrees}
 

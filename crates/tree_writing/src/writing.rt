@@ -2,10 +2,10 @@
 ghost use Rattle.std.specs.Prelude.{◌≡◌, ◌⊎◌, ◌≤◌, ◌<◌, ◌+◌, ◌*◌, ℕ, List, true, is_some, length, IfOk, OnOk, Some};
 ghost use Rattle.std.specs.FinMap as fin;
 ghost use Rattle.std.specs.FinMap.{get};
-ghost use Rattle.outcome.specs.Outcome.{Outcome};
-ghost use Rattle.store_api.specs.Content.{Id};
-ghost use Rattle.store_api.specs.Txs.{content_of, intact_in, tx_holdings, tx_meanings};
-ghost use Rattle.data_nodes.specs.Layout.{room, fan_out, ids_of, node_of, leaf, FitsPayload};
+ghost use Rattle.data_tree.specs.outcome.Outcome.{Outcome};
+ghost use Rattle.data_tree.specs.store_api.Content.{Id};
+ghost use Rattle.data_tree.specs.store_api.Txs.{content_of, intact_in, tx_holdings, tx_meanings};
+ghost use Rattle.data_tree.specs.data_nodes.Layout.{room, fan_out, ids_of, node_of, leaf, FitsPayload};
 ghost use Rattle.data_tree.specs.Leaving.{KeepsBlocks};
 ghost use Rattle.data_tree.specs.Needs.{SetsNode};
 ghost use Rattle.data_tree.specs.Roots.{IsAtLevel};
@@ -14,10 +14,10 @@ ghost use Rattle.tree_writing.specs.Leaves.{OnlyLeaves, OnlyAmong};
 ghost use Rattle.tree_writing.specs.Writing.{LeafCost, MayWrite, MayWriteNode, MayWriteTrees, WroteTree, WroteTrees, written_at};
 
 use block_id::{BlockId, Fail, Memory, Why};
-use data_nodes::Node;
+use data_tree::data_nodes::Node;
+use data_tree::store_api::{Blocks, Tx};
 use data_tree::{Level, load_at, put_node};
 use std::alloc::Global;
-use store_api::{Blocks, Tx};
 
 /// The list with these bytes from a place on.
 fn replaced(alloc: Global, old: &[u8], start: usize, bytes: &[u8]) -> Result<Vec<u8>, Memory>

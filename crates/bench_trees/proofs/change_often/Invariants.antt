@@ -1,4 +1,4 @@
-use Rattle.store_api.specs.Txs.{tx_meanings}
+use Rattle.map_store.specs.store_api.Txs.{tx_meanings}
 use Rattle.bench_trees.proofs.change_often.Given as goal
 
 abbrev pub invariant-loop-call : goal.invariant-loop-call

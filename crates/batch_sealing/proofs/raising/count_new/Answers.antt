@@ -2,11 +2,11 @@ use Rattle.std.proofs.Common.{◌≡◌, ℕ, ◌+◌, ◌<◌, false, true, Lis
 use Rattle.std.specs.Prelude.{Option, Some, None, is_some}
 use Rattle.std.specs.FinMap as fin
 use Rattle.block_id.specs.declared.id.BlockId.{BlockId}
-use Rattle.local_state.specs.declared.life.Life.{Life}
-use Rattle.local_state.specs.Known.{Lives}
+use Rattle.held_blocks.specs.local_state.declared.life.Life.{Life}
+use Rattle.held_blocks.specs.local_state.Known.{Lives}
 use Rattle.block_batch.specs.declared.batch.BatchChange.{BatchChange}
 use Rattle.block_batch.specs.Entries.{entries_of}
-use Rattle.store_api.proofs.Rising.{turn}
+use Rattle.held_blocks.proofs.store_api_lemmas.Rising.{turn}
 use Rattle.batch_sealing.specs.Raising.{one_if_new, count_new_in}
 use Rattle.batch_sealing.proofs.raising.count_new.Goals as goal
 use Rattle.batch_sealing.proofs.raising.count_new.Goals.{then-not-is_used, else-not-is_used}

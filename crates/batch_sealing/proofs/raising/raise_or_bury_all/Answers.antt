@@ -1,7 +1,7 @@
 use Rattle.std.proofs.Common.{◌≡◌, ◌+◌, drop, sym, ◌∙◌, ap, subst, arith}
 use Rattle.std.specs.FinMap as fin
 use Rattle.block_batch.specs.Entries.{entry_view, entries_of}
-use Rattle.store_api.proofs.Rising.{turn}
+use Rattle.held_blocks.proofs.store_api_lemmas.Rising.{turn}
 use Rattle.batch_sealing.specs.Raising.{one_if_new, lives_after_one, lives_after_each, MayComeEach, count_new_each}
 use Rattle.batch_sealing.proofs.raising.raise_or_bury_all.Goals as goal
 

@@ -2,10 +2,10 @@ use Rattle.std.proofs.Common.{◌≡◌, ℕ, ◌+◌, ◌<◌, List, drop, leng
 use Rattle.std.specs.Prelude.{◌||◌}
 use Rattle.std.specs.FinMap as fin
 use Rattle.block_id.specs.declared.id.BlockId.{BlockId}
-use Rattle.local_state.specs.Known.{Lives}
+use Rattle.held_blocks.specs.local_state.Known.{Lives}
 use Rattle.block_batch.specs.declared.batch.BatchChange.{BatchChange}
 use Rattle.block_batch.specs.Entries.{entries_of, change_view}
-use Rattle.store_api.proofs.Rising.{turn}
+use Rattle.held_blocks.proofs.store_api_lemmas.Rising.{turn}
 use Rattle.batch_sealing.specs.Raising.{is_spent_at, some_spent_in}
 use Rattle.batch_sealing.proofs.raising.some_spent.Goals as goal
 

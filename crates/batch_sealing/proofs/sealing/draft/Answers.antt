@@ -3,15 +3,15 @@ use Rattle.std.specs.Prelude.{IfOk, Option}
 use Rattle.std.specs.declared.alloc.Global.{Global}
 use Rattle.std.specs.FinMap as fin
 use Rattle.rand_core.specs.Stream.{Stream}
-use Rattle.local_state.specs.declared.life.Life.{Life}
-use Rattle.local_state.specs.Known.{raised_version}
-use Rattle.sealed_store.specs.Drafts.{Seal, filled, sealed_as, IsDraftOf}
-use Rattle.sealed_store.specs.Stores.{key_of, cipher_of}
-use Rattle.block_records.specs.BlockRecords.{record_of, record_in}
+use Rattle.held_blocks.specs.local_state.declared.life.Life.{Life}
+use Rattle.held_blocks.specs.local_state.Known.{raised_version}
+use Rattle.held_blocks.specs.sealed_store.Drafts.{Seal, filled, sealed_as, IsDraftOf}
+use Rattle.held_blocks.specs.sealed_store.Stores.{key_of, cipher_of}
+use Rattle.held_blocks.specs.block_records.BlockRecords.{record_of, record_in}
 use Rattle.held_blocks.specs.Held.{Held, own}
 use Rattle.batch_sealing.specs.Sealing.{drawn_iv, IsFileFor}
 use Rattle.held_blocks.specs.Views.{held_of}
-use Rattle.store_api.proofs.Draws.{later_filled}
+use Rattle.held_blocks.proofs.store_api_lemmas.Draws.{later_filled}
 use Rattle.batch_sealing.proofs.sealing.draft.Goals as goal
 
 from_one : (life : Option Life) → 0 < raised_version life

@@ -1,8 +1,8 @@
 use Rattle.std.proofs.Common.{map, refl}
 use Rattle.outside.specs.View.{list_of}
-use Rattle.sealed_store.specs.Drafts.{sealed_entry}
-use Rattle.sealed_store.specs.Stores.{block_size_of, key_of, cipher_of}
-use Rattle.store_api.proofs.Draws.{later_chained}
+use Rattle.held_blocks.specs.sealed_store.Drafts.{sealed_entry}
+use Rattle.held_blocks.specs.sealed_store.Stores.{block_size_of, key_of, cipher_of}
+use Rattle.held_blocks.proofs.store_api_lemmas.Draws.{later_chained}
 use Rattle.held_blocks.specs.Views.{held_of}
 use Rattle.batch_sealing.proofs.Sealed.{drafts_next, may_next, made_next, made_all}
 use Rattle.batch_sealing.proofs.sealing.draft_all.Goals as goal

@@ -1,9 +1,9 @@
 use Rattle.std.proofs.Common.{drop, map}
 use Rattle.std.specs.List.{AllByRecursion}
 use Rattle.outside.specs.View.{list_of}
-use Rattle.sealed_store.specs.Drafts.{sealed_entry, AreDrafts}
-use Rattle.sealed_store.specs.Stores.{block_size_of, key_of, cipher_of}
-use Rattle.store_api.specs.Draws.{IsLater}
+use Rattle.held_blocks.specs.sealed_store.Drafts.{sealed_entry, AreDrafts}
+use Rattle.held_blocks.specs.sealed_store.Stores.{block_size_of, key_of, cipher_of}
+use Rattle.held_blocks.specs.store_api.Draws.{IsLater}
 use Rattle.block_batch.specs.Entries.{entries_of}
 use Rattle.batch_sealing.specs.Sealing.{MaySeal}
 use Rattle.held_blocks.specs.Views.{held_of}

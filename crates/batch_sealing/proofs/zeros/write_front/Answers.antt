@@ -1,5 +1,5 @@
 use Rattle.std.proofs.Common.{ℕ, ◌+◌, List, length, arith}
-use Rattle.block_records.specs.BlockRecords.{Record, FitsFile}
+use Rattle.held_blocks.specs.block_records.BlockRecords.{Record, FitsFile}
 use Rattle.batch_sealing.proofs.Fronts.{filled_reads, id_wide}
 use Rattle.batch_sealing.proofs.zeros.write_front.Goals as goal
 

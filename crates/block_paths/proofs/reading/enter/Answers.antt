@@ -1,6 +1,6 @@
 use Rattle.std.proofs.Common.{sym, subst, arith}
 use Rattle.std.proofs.lemmas.List.{length-map}
-use Rattle.dir_entries.specs.Layout.{listing_of}
+use Rattle.cryfs_check.specs.dir_entries.Layout.{listing_of}
 use Rattle.cryfs_check.specs.Places.{AreBehind, place_text, places_text}
 use Rattle.cryfs_check.proofs.Tables.{behind-more}
 use Rattle.block_paths.proofs.reading.enter.Goals as goal

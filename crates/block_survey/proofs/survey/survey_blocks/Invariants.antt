@@ -1,7 +1,7 @@
 -- the blocks so far were surveyed
 use Rattle.std.proofs.Common.{map, take}
 use Rattle.std.specs.Prelude.{Ok}
-use Rattle.data_nodes.specs.Layout.{ids_of}
+use Rattle.block_walk.specs.data_nodes.Layout.{ids_of}
 use Rattle.block_survey.specs.Surveys.{IsSurvey, Surveys, refusal_of}
 use Rattle.block_survey.proofs.survey.survey_blocks.Given as goal
 

@@ -4,8 +4,8 @@ use Rattle.std.specs.List.{slice_get}
 use Rattle.std.proofs.lemmas.List.{length-take, length-map, get_or-take}
 use Rattle.std.proofs.Math.Nat.{mul-le-mul_right}
 use Rattle.block_id.specs.declared.id.BlockId.{BlockId}
-use Rattle.outcome.specs.Outcome.{idle, then_}
-use Rattle.data_nodes.specs.Layout.{node_of, ids_of, inner, FitsPayload, fan_out}
+use Rattle.data_tree.specs.outcome.Outcome.{idle, then_}
+use Rattle.data_tree.specs.data_nodes.Layout.{node_of, ids_of, inner, FitsPayload, fan_out}
 use Rattle.data_tree.specs.Trees.{IsTree, Holds, Forest, span, depth_in}
 use Rattle.data_tree.proofs.Forests.{stays-then, stays-same}
 use Rattle.data_tree.proofs.Gathering.{more_children, all_children}

@@ -1,8 +1,8 @@
 use Rattle.std.proofs.Common.{◌+◌, ◌*◌, take}
 use Rattle.std.specs.Prelude.{Ok}
-use Rattle.outcome.specs.Outcome.{Outcome}
-use Rattle.store_api.specs.Holdings.{Stays}
-use Rattle.data_nodes.specs.Layout.{ids_of}
+use Rattle.data_tree.specs.outcome.Outcome.{Outcome}
+use Rattle.data_tree.specs.store_api.Holdings.{Stays}
+use Rattle.data_tree.specs.data_nodes.Layout.{ids_of}
 use Rattle.data_tree.specs.Trees.{IsTree, Forest, span}
 use Rattle.block_walk.specs.Given.{IsLoad}
 use Rattle.block_walk.specs.Walks.{Walked, FillsAll}

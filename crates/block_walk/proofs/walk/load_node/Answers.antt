@@ -2,7 +2,7 @@ use Rattle.std.proofs.Common.{◌≡◌, [], subst, sym, refl, inl, inr, length}
 use Rattle.std.specs.Prelude.{Ok, Err, Some, None, IfSome, is_some}
 use Rattle.std.specs.Option.{option_map}
 use Rattle.outside.specs.View.{bytes_of}
-use Rattle.data_nodes.specs.Layout.{NodeText, node_of, IsNode}
+use Rattle.data_tree.specs.data_nodes.Layout.{NodeText, node_of, IsNode}
 use Rattle.block_walk.specs.Given.{IsLoad}
 use Rattle.block_walk.proofs.Halting.{halted_none, halted_one}
 use Rattle.block_walk.proofs.Loading.{load_ok, load_err}

@@ -2,7 +2,7 @@ use Rattle.std.proofs.Common.{◌≡◌, ◌≤◌, ◌+◌, ◌*◌, suc, List,
 use Rattle.std.proofs.lemmas.List.{length-map}
 use Rattle.std.proofs.Math.Nat.{mul-le-mul_right}
 use Rattle.block_id.specs.declared.id.BlockId.{BlockId}
-use Rattle.data_nodes.specs.Layout.{node_of, ids_of, leaf, inner, FitsPayload, fan_out}
+use Rattle.data_tree.specs.data_nodes.Layout.{node_of, ids_of, leaf, inner, FitsPayload, fan_out}
 use Rattle.data_tree.specs.Trees.{IsTree, Forest, NoDoubles, span, depth_in}
 use Rattle.data_tree.specs.Stored.{BlobTree}
 use Rattle.block_walk.specs.Fronts.{joined_front}
@@ -11,7 +11,7 @@ use Rattle.block_walk.proofs.Halting.{halted_then, halted_here, if_err}
 use Rattle.block_walk.proofs.Onward.{unfit_as, flaw_in, flaw_among, no_level}
 use Rattle.block_walk.proofs.Walking.{walked_then, walked_as, walked_bytes, if_ok}
 use Rattle.block_walk.proofs.Filling.{leaf_blob, inner_blob}
-use Rattle.outcome.specs.Outcome.{then_}
+use Rattle.data_tree.specs.outcome.Outcome.{then_}
 use Rattle.block_walk.proofs.walk.walk_root.Goals as goal
 
 pub returns-in-Ok-push-clause-walked : goal.returns-in-Ok-push-clause-walked

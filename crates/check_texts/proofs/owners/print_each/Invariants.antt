@@ -1,7 +1,7 @@
 -- the lines of the owners so far were printed, or wait
 use Rattle.std.proofs.Common.{take}
 use Rattle.std.specs.List.{flat_map}
-use Rattle.line_io.specs.Streams.{stream_of}
+use Rattle.copy_sessions.specs.line_io.Streams.{stream_of}
 use Rattle.check_texts.specs.Printing.{Passes}
 use Rattle.check_texts.specs.Texts.{owner_text}
 use Rattle.check_texts.proofs.owners.print_each.Given as goal

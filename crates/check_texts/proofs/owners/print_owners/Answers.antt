@@ -1,6 +1,6 @@
 use Rattle.std.proofs.Common.{◌++◌, [], Ok, subst}
 use Rattle.std.specs.List.{flat_map}
-use Rattle.line_io.specs.Streams.{stream_of}
+use Rattle.copy_sessions.specs.line_io.Streams.{stream_of}
 use Rattle.check_texts.proofs.Passing.{handed, printed_stop, printed_whole, stops, then_prints}
 use Rattle.check_texts.specs.Printing.{IsPrinted}
 use Rattle.check_texts.specs.Texts.{count_text, owner_text}

@@ -1,6 +1,6 @@
 use Rattle.std.proofs.Common.{◌≡◌, [], List, ℕ, ap, subst, ◌∙◌}
 use Rattle.std.specs.List.{flat_map}
-use Rattle.line_io.specs.Streams.{stream_of}
+use Rattle.copy_sessions.specs.line_io.Streams.{stream_of}
 use Rattle.check_texts.proofs.Beside.{lines_alike}
 use Rattle.check_texts.proofs.Passing.{handed, printed_stop, printed_whole, then_prints}
 use Rattle.check_texts.specs.Printing.{IsPrinted}

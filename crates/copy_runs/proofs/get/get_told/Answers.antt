@@ -1,6 +1,6 @@
 use Rattle.std.proofs.Common.{subst}
-use Rattle.line_io.specs.Streams.{stream_of}
-use Rattle.copy_sessions.specs.Fitting.{WentBy}
+use Rattle.file_copies.specs.line_io.Streams.{stream_of}
+use Rattle.file_copies.specs.copy_sessions.Fitting.{WentBy}
 use Rattle.file_copies.proofs.Sessions.{get_session}
 use Rattle.shell_sessions.specs.Mounting.{mounted_hosting}
 use Rattle.copy_runs.proofs.Files.{get_own}

@@ -1,9 +1,9 @@
 use Rattle.std.proofs.Common.{refl, rules}
-use Rattle.line_io.specs.Reading.{coming}
-use Rattle.line_io.specs.Streams.{stream_of}
-use Rattle.session_runs.proofs.Drawing.{draws_nothing}
-use Rattle.session_runs.specs.Drawing.{DrawsVectors}
-use Rattle.session_runs.specs.Runs.{outside_of}
+use Rattle.file_copies.specs.line_io.Reading.{coming}
+use Rattle.file_copies.specs.line_io.Streams.{stream_of}
+use Rattle.shell_sessions.proofs.session_runs_lemmas.Drawing.{draws_nothing}
+use Rattle.shell_sessions.specs.session_runs.Drawing.{DrawsVectors}
+use Rattle.shell_sessions.specs.session_runs.Runs.{outside_of}
 use Rattle.shell_sessions.proofs.Ending.{has_password, halted, draws_served}
 use Rattle.file_copies.specs.Coming.{ComesGet}
 use Rattle.copy_runs.proofs.Serving.{was_served, served}

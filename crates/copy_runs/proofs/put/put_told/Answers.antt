@@ -1,7 +1,7 @@
 use Rattle.std.proofs.Common.{subst}
-use Rattle.line_io.specs.Reading.{coming}
-use Rattle.line_io.specs.Streams.{stream_of}
-use Rattle.copy_sessions.specs.Fitting.{WentBy}
+use Rattle.file_copies.specs.line_io.Reading.{coming}
+use Rattle.file_copies.specs.line_io.Streams.{stream_of}
+use Rattle.file_copies.specs.copy_sessions.Fitting.{WentBy}
 use Rattle.file_copies.proofs.Sessions.{put_session}
 use Rattle.shell_sessions.specs.Mounting.{mounted_hosting}
 use Rattle.copy_runs.proofs.Files.{put_own}

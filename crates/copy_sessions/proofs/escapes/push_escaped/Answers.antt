@@ -1,7 +1,7 @@
 use Rattle.std.proofs.Common.{get_or}
 use Rattle.std.proofs.lemmas.List.{get_or_default}
-use Rattle.script_text.specs.Texts.{escape}
-use Rattle.script_text.proofs.Appended.{grown_stops, grown_more, grown_all}
+use Rattle.session_lines.specs.script_text.Texts.{escape}
+use Rattle.session_lines.proofs.script_text_lemmas.Appended.{grown_stops, grown_more, grown_all}
 use Rattle.copy_sessions.proofs.escapes.push_escaped.Goals as goal
 
 pub returns-in_err-push_escape : goal.returns-in_err-push_escape

@@ -1,6 +1,6 @@
 -- the texts so far were appended
-use Rattle.script_text.specs.Texts.{escape}
-use Rattle.script_text.proofs.Appended.{Grown}
+use Rattle.session_lines.specs.script_text.Texts.{escape}
+use Rattle.session_lines.proofs.script_text_lemmas.Appended.{Grown}
 use Rattle.copy_sessions.proofs.escapes.push_escaped.Given as goal
 
 abbrev pub invariant-loop-byte : goal.invariant-loop-byte

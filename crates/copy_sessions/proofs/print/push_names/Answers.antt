@@ -1,5 +1,5 @@
 use Rattle.copy_sessions.specs.Texts.{name_text}
-use Rattle.script_text.proofs.Appended.{grown_stops, grown_more, grown_all}
+use Rattle.session_lines.proofs.script_text_lemmas.Appended.{grown_stops, grown_more, grown_all}
 use Rattle.copy_sessions.proofs.print.push_names.Goals as goal
 
 pub returns-in_err-push_name : goal.returns-in_err-push_name

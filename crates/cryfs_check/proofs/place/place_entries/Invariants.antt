@@ -1,5 +1,5 @@
 use Rattle.std.proofs.Common.{◌≡◌, ◌++◌}
-use Rattle.dir_entries.specs.Layout.{listing_of}
+use Rattle.check_rules.specs.dir_entries.Layout.{listing_of}
 use Rattle.cryfs_check.specs.Places.{places_text, placed}
 use Rattle.cryfs_check.proofs.place.place_entries.Given as goal
 

@@ -1,22 +1,22 @@
 use Rattle.std.proofs.Common.{◌≡◌, ◌+◌, ◌-◌, [], ◌++◌, ℕ, length, take, drop, sym, ◌∙◌, ap, subst, refl, arith}
 use Rattle.std.specs.Prelude.{IfSome, IfNone}
 use Rattle.std.proofs.lemmas.List.{length-append, take_all}
-use Rattle.block_walk.specs.declared.flaw.Flaw.{Flaw}
-use Rattle.block_walk.specs.declared.flaw.Flaw.TheVariants.{BadNode, BadBlob, Parent, Twice, NotLive, Unowned}
-use Rattle.block_walk.specs.Fronts.{FrontState}
-use Rattle.block_walk.specs.Given.{IsLoad}
-use Rattle.block_walk.specs.Halts.{FlawAt}
-use Rattle.block_walk.specs.Marks.{MarkList}
-use Rattle.block_walk.specs.Needs.{top, Leads}
-use Rattle.block_walk.specs.Walks.{Walked}
-use Rattle.block_walk.proofs.Halting.{halted_as}
-use Rattle.data_tree.specs.Stored.{BlobTree}
-use Rattle.dir_entries.specs.Layout.{Listing, listing_of}
-use Rattle.fs_blobs.specs.Headers.{header_text, blob, BeginsWith}
-use Rattle.fs_blobs.proofs.Laws.{one_in_front}
-use Rattle.fs_blobs.proofs.Parts.{length-header}
+use Rattle.check_rules.specs.block_walk.declared.flaw.Flaw.{Flaw}
+use Rattle.check_rules.specs.block_walk.declared.flaw.Flaw.TheVariants.{BadNode, BadBlob, Parent, Twice, NotLive, Unowned}
+use Rattle.check_rules.specs.block_walk.Fronts.{FrontState}
+use Rattle.check_rules.specs.block_walk.Given.{IsLoad}
+use Rattle.check_rules.specs.block_walk.Halts.{FlawAt}
+use Rattle.check_rules.specs.block_walk.Marks.{MarkList}
+use Rattle.check_rules.specs.block_walk.Needs.{top, Leads}
+use Rattle.check_rules.specs.block_walk.Walks.{Walked}
+use Rattle.check_rules.proofs.block_walk_lemmas.Halting.{halted_as}
+use Rattle.check_rules.specs.data_tree.Stored.{BlobTree}
+use Rattle.check_rules.specs.dir_entries.Layout.{Listing, listing_of}
+use Rattle.check_rules.specs.fs_blobs.Headers.{header_text, blob, BeginsWith}
+use Rattle.check_rules.proofs.fs_blobs_lemmas.Laws.{one_in_front}
+use Rattle.check_rules.proofs.fs_blobs_lemmas.Parts.{length-header}
 use Rattle.fs_model.specs.declared.attr.Kind.{Kind}
-use Rattle.store_api.specs.Content.{Id, Content}
+use Rattle.check_rules.specs.store_api.Content.{Id, Content}
 use Rattle.cryfs_check.specs.Halts.{VisitFlaw}
 use Rattle.cryfs_check.specs.Rows.{FitsKept, most_kept}
 use Rattle.cryfs_check.proofs.Blobs.{begins, fits_front, most_enough, front_of, halted_at, other_ids}

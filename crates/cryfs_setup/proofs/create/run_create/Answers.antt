@@ -1,7 +1,7 @@
 use Rattle.std.proofs.Common.{refl, inl, inr, sym, subst}
-use Rattle.line_io.specs.Reading.{coming}
-use Rattle.line_io.specs.Streams.{stream_of}
-use Rattle.mount_tower.specs.Drawing.{drawn}
+use Rattle.session_runs.specs.line_io.Reading.{coming}
+use Rattle.session_runs.specs.line_io.Streams.{stream_of}
+use Rattle.session_runs.specs.mount_tower.Drawing.{drawn}
 use Rattle.cryfs_setup.specs.Create.{IsCreated}
 use Rattle.cryfs_setup.proofs.Beginning.{held, has_password, unread_causes}
 use Rattle.cryfs_setup.proofs.create.run_create.Goals as goal

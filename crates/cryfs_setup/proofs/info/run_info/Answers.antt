@@ -1,6 +1,6 @@
 use Rattle.std.proofs.Common.{refl, inl, inr, sym, subst}
-use Rattle.line_io.specs.Reading.{coming}
-use Rattle.line_io.specs.Streams.{stream_of}
+use Rattle.session_runs.specs.line_io.Reading.{coming}
+use Rattle.session_runs.specs.line_io.Streams.{stream_of}
 use Rattle.cryfs_setup.specs.Info.{ToldUnder}
 use Rattle.cryfs_setup.proofs.Beginning.{held, has_password, unread_causes}
 use Rattle.cryfs_setup.proofs.info.run_info.Goals as goal

@@ -1,8 +1,8 @@
 use Rattle.std.proofs.Common.{refl, inl, inr}
 use Rattle.cryfs_setup.proofs.Anew.{leaves, status_so}
-use Rattle.mount_migrating.specs.Migrating.{told}
+use Rattle.mount_calls.specs.mount_migrating.Migrating.{told}
 use Rattle.session_runs.proofs.Drawing.{known_opened, named_closed}
-use Rattle.mount_core.specs.Showing.{ShowsFiles}
+use Rattle.session_runs.specs.mount_core.Showing.{ShowsFiles}
 use Rattle.cryfs_setup.proofs.Drawing.{known_anew}
 use Rattle.cryfs_setup.proofs.migrate.migrate_under.Goals as goal
 

@@ -1,6 +1,6 @@
 use Rattle.std.proofs.Common.{refl, inl, inr, sym, subst}
-use Rattle.line_io.specs.Reading.{coming}
-use Rattle.line_io.specs.Streams.{stream_of}
+use Rattle.session_runs.specs.line_io.Reading.{coming}
+use Rattle.session_runs.specs.line_io.Streams.{stream_of}
 use Rattle.session_runs.proofs.Drawing.{named_nothing}
 use Rattle.session_runs.specs.Runs.{outside_of}
 use Rattle.cryfs_setup.specs.Migrate.{MigratedUnder}

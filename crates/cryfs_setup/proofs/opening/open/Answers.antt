@@ -1,7 +1,7 @@
-use Rattle.mount.proofs.Formats.{opened_level}
+use Rattle.session_runs.proofs.mount_lemmas.Formats.{opened_level}
 use Rattle.session_runs.proofs.Drawing.{named_unopened}
 use Rattle.session_runs.proofs.Unopened.{unopened, caused}
-use Rattle.mount_core.specs.Showing.{ShowsFiles}
+use Rattle.session_runs.specs.mount_core.Showing.{ShowsFiles}
 use Rattle.cryfs_setup.proofs.opening.open.Goals as goal
 
 pub returns-in-Ok-clause-begun : goal.returns-in-Ok-clause-begun

@@ -1,5 +1,5 @@
 use Rattle.std.proofs.Common.{refl, inl, inr, sym, subst}
-use Rattle.line_io.specs.Streams.{stream_of}
+use Rattle.session_runs.specs.line_io.Streams.{stream_of}
 use Rattle.cryfs_setup.specs.Passwd.{ChangedUnder}
 use Rattle.cryfs_setup.proofs.Beginning.{held, has_passwords, both_unread_causes}
 use Rattle.cryfs_setup.proofs.passwd.run_passwd.Goals as goal

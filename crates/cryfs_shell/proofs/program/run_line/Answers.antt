@@ -1,6 +1,6 @@
 use Rattle.std.proofs.Common.{ℕ, List, map, subst, ◌∙◌}
 use Rattle.std.specs.String.{string_bytes}
-use Rattle.line_io.specs.Streams.{stream_of}
+use Rattle.plain_trials.specs.line_io.Streams.{stream_of}
 use Rattle.copy_runs.specs.shell_sessions.Sessions.{ComesCommand}
 use Rattle.shell_words.specs.Forms.{joined}
 use Rattle.cryfs_shell.proofs.Copies.{session_as}

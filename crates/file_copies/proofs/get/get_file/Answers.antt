@@ -1,7 +1,7 @@
 use Rattle.std.proofs.Common.{◌≡◌, ◌+◌, ◌<◌, ◌≤◌, length, refl, ◌∙◌, ap, subst, arith}
 use Rattle.std.specs.declared.result.Result.TheVariants.{Err}
 use Rattle.outside.specs.Streams.{appends}
-use Rattle.line_io.specs.Streams.{stream_of, Cut}
+use Rattle.copy_sessions.specs.line_io.Streams.{stream_of, Cut}
 use Rattle.row_copy.proofs.ByKind.{stops_from}
 use Rattle.file_copies.proofs.Getting.{got_none, got_memory, got_unread, got_unwritten, got_last, got_more}
 use Rattle.file_copies.proofs.get.get_file.Goals as goal

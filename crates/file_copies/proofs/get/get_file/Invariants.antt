@@ -1,5 +1,5 @@
 use Rattle.std.proofs.Common.{◌≡◌, ◌-◌}
-use Rattle.line_io.specs.Streams.{stream_of}
+use Rattle.copy_sessions.specs.line_io.Streams.{stream_of}
 use Rattle.file_copies.proofs.Getting.{IsGotTo}
 use Rattle.file_copies.proofs.get.get_file.Given as goal
 

@@ -1,7 +1,7 @@
 use Rattle.std.proofs.Common.{◌≡◌, ◌+◌, ◌<◌, length, refl, sym, ◌∙◌, subst, arith}
 use Rattle.std.specs.declared.result.Result.TheVariants.{Ok, Err}
-use Rattle.line_io.specs.Reading.{coming}
-use Rattle.line_io.proofs.Progress.{Ends-rest}
+use Rattle.copy_sessions.specs.line_io.Reading.{coming}
+use Rattle.copy_sessions.proofs.line_io_lemmas.Progress.{Ends-rest}
 use Rattle.row_copy.specs.declared.stop.Stop.TheVariants as stop
 use Rattle.row_copy.proofs.ByKind.{stops_from}
 use Rattle.row_copy.proofs.Files.{written_none, read_memory, read_host, read_all, write_fails, write_last, write_more}

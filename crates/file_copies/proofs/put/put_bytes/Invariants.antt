@@ -1,6 +1,6 @@
 use Rattle.std.proofs.Common.{◌≡◌, ◌-◌, true}
 use Rattle.outside.specs.Streams.{Ends}
-use Rattle.line_io.specs.Reading.{coming, total}
+use Rattle.copy_sessions.specs.line_io.Reading.{coming, total}
 use Rattle.row_copy.specs.Rows.{IsWritten}
 use Rattle.file_copies.proofs.Pieces.{told_file, file_path, Left}
 use Rattle.file_copies.proofs.put.put_bytes.Given as goal

@@ -1,7 +1,7 @@
 use Rattle.std.proofs.Common.{[], ◌∷◌, ◌∙◌, ap}
-use Rattle.line_io.specs.Reading.{coming}
+use Rattle.copy_sessions.specs.line_io.Reading.{coming}
 use Rattle.fs_model.specs.declared.command.Command.TheVariants.{Mkfile}
-use Rattle.copy_rules.specs.Ends.{counted}
+use Rattle.row_copy.specs.copy_rules.Ends.{counted}
 use Rattle.file_copies.proofs.Putting.{put_unmade, put_unwritten, put_whole}
 use Rattle.file_copies.proofs.put.put_file.Goals as goal
 

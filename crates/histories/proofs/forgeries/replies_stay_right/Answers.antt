@@ -1,4 +1,4 @@
-use Rattle.mount_core.specs.Showing.{ShowsFiles}
+use Rattle.session_runs.specs.mount_core.Showing.{ShowsFiles}
 use Rattle.histories.proofs.Forged.{right}
 use Rattle.histories.proofs.forgeries.replies_stay_right.Goals as goal
 

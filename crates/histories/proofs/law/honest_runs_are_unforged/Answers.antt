@@ -1,4 +1,4 @@
-use Rattle.mount_core.specs.Showing.{ShowsFiles}
+use Rattle.session_runs.specs.mount_core.Showing.{ShowsFiles}
 use Rattle.histories.proofs.Honest.{one_opens_only, one_unforged, all_unforged, one_calm, all_calm}
 use Rattle.histories.proofs.law.honest_runs_are_unforged.Goals as goal
 

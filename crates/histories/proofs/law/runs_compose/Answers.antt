@@ -1,5 +1,5 @@
 use Rattle.fs_model.specs.Tree.{empty_tree}
-use Rattle.mount_core.specs.Showing.{ShowsFiles}
+use Rattle.session_runs.specs.mount_core.Showing.{ShowsFiles}
 use Rattle.histories.proofs.Following.{compose}
 use Rattle.histories.proofs.Refused.{refused_unforged}
 use Rattle.histories.proofs.law.runs_compose.Goals as goal

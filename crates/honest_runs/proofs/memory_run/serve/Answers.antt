@@ -6,11 +6,11 @@ use Rattle.cryfs_shell.specs.Doing.{Did}
 use Rattle.cryfs_shell.specs.Hosts.{host_of}
 use Rattle.cryfs_shell.specs.Streams.{streams_of}
 use Rattle.fs_model.specs.Tree.{empty_tree}
-use Rattle.line_io.specs.Streams.{Stream}
-use Rattle.memory_outside.specs.Vaults.{VaultState}
-use Rattle.session_lines.specs.Driven.{IsUnfailed}
+use Rattle.cryfs_shell.specs.line_io.Streams.{Stream}
+use Rattle.honest_outside.specs.memory_outside.Vaults.{VaultState}
+use Rattle.cryfs_shell.specs.session_lines.Driven.{IsUnfailed}
 use Rattle.cryfs_shell.specs.session_runs.Runs.{lies}
-use Rattle.shell_words.specs.Forms.{form_of}
+use Rattle.cryfs_shell.specs.shell_words.Forms.{form_of}
 use Rattle.honest_outside.specs.contracts.honest_keeper.HonestKeeperKeeper.TheImpl as keeper_impl
 use Rattle.honest_outside.specs.contracts.honest_vault.HonestVaultListing.TheImpl as listing_impl
 use Rattle.memory_folder.specs.contracts.memory_folder.MemoryFolderFolder.TheImpl as folder_impl

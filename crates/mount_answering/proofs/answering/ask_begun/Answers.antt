@@ -1,18 +1,18 @@
 use Rattle.std.specs.FinMap as fin
 use Rattle.std.proofs.Common.{◌≡◌, ◌≤◌, ◌+◌, refl, sym, ◌∙◌, ap, subst, false, arith, inl}
-use Rattle.answers.specs.declared.answer.Answer.{Answer}
-use Rattle.answers.specs.declared.answer.Answer.TheVariants.{Reply as Replied, Memory, Spent, FaultDirectory, Violation, Refused}
-use Rattle.answers.specs.Sessions.{is_violation, directory_faults, state_faults}
+use Rattle.mount_core.specs.answers.declared.answer.Answer.{Answer}
+use Rattle.mount_core.specs.answers.declared.answer.Answer.TheVariants.{Reply as Replied, Memory, Spent, FaultDirectory, Violation, Refused}
+use Rattle.mount_core.specs.answers.Sessions.{is_violation, directory_faults, state_faults}
 use Rattle.block_id.specs.declared.fail.Why.{Why}
-use Rattle.outcome.specs.Meanings.{HasCause}
-use Rattle.outcome.specs.Outcome.{alarm as no_alarm}
+use Rattle.mount_core.specs.outcome.Meanings.{HasCause}
+use Rattle.mount_core.specs.outcome.Outcome.{alarm as no_alarm}
 use Rattle.outside.specs.Causes.{RoseBy}
 use Rattle.outside.specs.Going.{goes_on_onward}
-use Rattle.store_api.proofs.Draws.{later_same}
-use Rattle.store_api.specs.Txs.{tx_laws}
-use Rattle.tree_commands.specs.Performing.{IsReplyTo}
-use Rattle.tree_commands.specs.Showing.{ShowsFiles}
-use Rattle.tree_commands.proofs.Shows.{files_same}
+use Rattle.mount_core.proofs.store_api_lemmas.Draws.{later_same}
+use Rattle.mount_core.specs.store_api.Txs.{tx_laws}
+use Rattle.mount_core.specs.tree_commands.Performing.{IsReplyTo}
+use Rattle.mount_core.specs.tree_commands.Showing.{ShowsFiles}
+use Rattle.mount_core.proofs.tree_commands_lemmas.Shows.{files_same}
 use Rattle.mount_core.specs.Answers.{is_done_answer, is_structure, Notices, OnReply, OnSpent, OnFound}
 use Rattle.mount_core.specs.Causes.{SpentCause}
 use Rattle.mount_core.specs.Drawing.{DrawsOnce, NamesOfSeed}
@@ -28,7 +28,7 @@ use Rattle.mount_answering.proofs.Versions.{raised_stays, raised_on, few_stays, 
 use Rattle.mount_answering.proofs.Quiet.{fail_directory, fail_directory_rose}
 use Rattle.mount_answering.proofs.answering.ask_begun.Given.{Over}
 use Rattle.mount_answering.proofs.answering.ask_begun.Goals as goal
-use Rattle.session_saver.specs.Saving.{world}
+use Rattle.mount_core.specs.session_saver.Saving.{world}
 
 abbrev CoreOf : Over → Type 0
 CoreOf g = Core g.row.S.Denot g.row.K.Denot

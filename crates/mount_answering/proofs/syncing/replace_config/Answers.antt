@@ -1,15 +1,15 @@
 use Rattle.std.proofs.Common.{true, inl, inr, refl, sym, ◌∙◌, subst, arith}
 use Rattle.outside.specs.Causes.{RoseBy}
 use Rattle.outside.specs.Going.{GoesOn, goes_on_equal}
-use Rattle.store_api.specs.Holdings.{IsFew}
-use Rattle.tree_commands.specs.Showing.{ShowsFiles}
-use Rattle.tree_commands.proofs.Shows.{files_same}
+use Rattle.mount_core.specs.store_api.Holdings.{IsFew}
+use Rattle.mount_core.specs.tree_commands.Showing.{ShowsFiles}
+use Rattle.mount_core.proofs.tree_commands_lemmas.Shows.{files_same}
 use Rattle.mount_core.specs.Keeping.{HasConfigWaiting}
 use Rattle.mount_core.specs.declared.body.Core.{Core}
 use Rattle.mount_answering.proofs.Formats.{least_along}
 use Rattle.mount_answering.proofs.Lines.{replaced, stands_loaded, stands_waiting, stays_on, config_waiting, configures_loaded, whole_loaded}
-use Rattle.session_saver.specs.Saving.{world}
-use Rattle.session_saver.proofs.Steps.{memory_directory, memory_state, unless_directory}
+use Rattle.mount_core.specs.session_saver.Saving.{world}
+use Rattle.mount_core.proofs.session_saver_lemmas.Steps.{memory_directory, memory_state, unless_directory}
 use Rattle.mount_answering.proofs.syncing.replace_config.Given.{Over}
 use Rattle.mount_answering.proofs.syncing.replace_config.Goals as goal
 

@@ -1,11 +1,11 @@
 use Rattle.std.proofs.Common.{◌≤◌, ◌<◌, ◌∙◌, refl, sym, ap, subst, arith}
-use Rattle.config_file.specs.declared.config.Cipher.{Cipher}
-use Rattle.data_nodes.specs.Layout.{ids_of}
-use Rattle.integrity_store.specs.declared.store.IntegrityStore.{IntegrityStore}
-use Rattle.local_state.specs.Known.{live_ids}
-use Rattle.local_state.specs.declared.state.State.{State}
-use Rattle.mount.specs.declared.mount.Mount.{Mount}
-use Rattle.store_api.specs.Durables.{Identity}
+use Rattle.mount_blocks.specs.config_file.declared.config.Cipher.{Cipher}
+use Rattle.mount_opening.specs.data_nodes.Layout.{ids_of}
+use Rattle.mount_blocks.specs.integrity_store.declared.store.IntegrityStore.{IntegrityStore}
+use Rattle.mount_opening.specs.local_state.Known.{live_ids}
+use Rattle.mount_opening.specs.local_state.declared.state.State.{State}
+use Rattle.mount_blocks.specs.mount.declared.mount.Mount.{Mount}
+use Rattle.mount_opening.specs.store_api.Durables.{Identity}
 use Rattle.mount_blocks.proofs.Living.{has_payload, ids_live}
 use Rattle.mount_calls.specs.Migrating.{least_in}
 use Rattle.mount_calls.proofs.Migrated.{is_one, is_two, listed_once, migrates_all, migrates_failed, migrates_none, migrates_unlisted}

@@ -1,12 +1,12 @@
 use Rattle.std.proofs.Common.{◌∙◌, ap, refl}
 use Rattle.std.specs.declared.option.Option.TheVariants.{None}
-use Rattle.held_blocks.specs.Held.{Held}
-use Rattle.held_blocks.specs.Standing.{records}
-use Rattle.integrity_store.specs.EnduringLaws.{enduring_by}
-use Rattle.mount_answering.proofs.Lines.{config_marked}
-use Rattle.mount_tower.specs.Tower.{Cached, tower_meanings, tower_holdings, tower_durables}
-use Rattle.store_api.specs.declared.tx.Tx.{Tx}
-use Rattle.mount_core.specs.Showing.{ShowsFiles}
+use Rattle.mount_blocks.specs.held_blocks.Held.{Held}
+use Rattle.mount_blocks.specs.held_blocks.Standing.{records}
+use Rattle.mount_blocks.specs.integrity_store.EnduringLaws.{enduring_by}
+use Rattle.mount_migrating.proofs.mount_answering_lemmas.Lines.{config_marked}
+use Rattle.mount_blocks.specs.mount_tower.Tower.{Cached, tower_meanings, tower_holdings, tower_durables}
+use Rattle.mount_opening.specs.store_api.declared.tx.Tx.{Tx}
+use Rattle.mount_opening.specs.mount_core.Showing.{ShowsFiles}
 use Rattle.mount_calls.proofs.serving.condemn.Goals as goal
 
 pub returns : goal.returns

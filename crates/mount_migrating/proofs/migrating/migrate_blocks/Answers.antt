@@ -1,5 +1,5 @@
 use Rattle.std.proofs.Common.{◌∙◌, refl, sym, inr}
-use Rattle.mount_core.specs.Showing.{ShowsFiles}
+use Rattle.mount_answering.specs.mount_core.Showing.{ShowsFiles}
 use Rattle.std.specs.declared.result.Result.TheVariants.{Err}
 use Rattle.mount_migrating.specs.Migrating.{told}
 use Rattle.mount_migrating.proofs.Chains.{moves_all, moves_unrenewed, moves_unsynced}

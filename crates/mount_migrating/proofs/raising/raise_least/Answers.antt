@@ -1,12 +1,12 @@
 use Rattle.std.proofs.Common.{◌≡◌, ℕ, true, false, refl, sym, ◌∙◌, subst}
 use Rattle.std.specs.declared.result.Result.TheVariants.{Ok, Err}
-use Rattle.store_api.specs.Holdings.{Stays}
-use Rattle.store_api.specs.Leaving.{StaysMeant, SetsLeast}
-use Rattle.session_saver.specs.Saving.{world}
-use Rattle.session_saver.specs.declared.saver.Saver.{Saver}
-use Rattle.mount_core.specs.Showing.{ShowsFiles}
-use Rattle.tree_commands.proofs.Shows.{files_same}
-use Rattle.mount_core.specs.declared.body.Core.{Core}
+use Rattle.mount_answering.specs.store_api.Holdings.{Stays}
+use Rattle.mount_answering.specs.store_api.Leaving.{StaysMeant, SetsLeast}
+use Rattle.mount_answering.specs.session_saver.Saving.{world}
+use Rattle.mount_answering.specs.session_saver.declared.saver.Saver.{Saver}
+use Rattle.mount_answering.specs.mount_core.Showing.{ShowsFiles}
+use Rattle.mount_answering.proofs.tree_commands_lemmas.Shows.{files_same}
+use Rattle.mount_answering.specs.mount_core.declared.body.Core.{Core}
 use Rattle.mount_migrating.specs.Migrating.{IsMigratedRecord, Rests}
 use Rattle.mount_migrating.specs.Noticing.{OnlySet}
 use Rattle.mount_migrating.proofs.Drawing.{keeps_on, short_keeps}

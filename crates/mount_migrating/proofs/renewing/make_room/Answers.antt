@@ -1,5 +1,5 @@
 use Rattle.std.proofs.Common.{inl, refl}
-use Rattle.answers.specs.declared.answer.Answer.TheVariants.{Reply as Replied}
+use Rattle.mount_answering.specs.answers.declared.answer.Answer.TheVariants.{Reply as Replied}
 use Rattle.fs_model.specs.declared.reply.Reply.TheVariants.{Done}
 use Rattle.mount_migrating.proofs.Drawing.{keeps_same}
 use Rattle.mount_migrating.proofs.Noticing.{along_same}

@@ -6,20 +6,20 @@ use Rattle.outside.specs.View.{bytes_of}
 use Rattle.std.specs.FinMap as fin
 use Rattle.std.specs.declared.option.Option.TheVariants.{Some}
 use Rattle.std.specs.declared.result.Result.TheVariants.{Err}
-use Rattle.outcome.specs.Outcome.{alarm as no_alarm}
-use Rattle.session_saver.specs.Saving.{world}
-use Rattle.store_api.specs.Content.{Changes}
-use Rattle.store_api.specs.Holdings.{Changed, FitsStore, IsFew, IsSpent}
-use Rattle.mount_core.specs.Showing.{ShowsFiles}
-use Rattle.tree_commands.proofs.Shows.{files_same}
-use Rattle.mount_core.specs.Drawing.{NamesKnown}
-use Rattle.mount_core.specs.declared.body.Core.{Core}
+use Rattle.mount_answering.specs.outcome.Outcome.{alarm as no_alarm}
+use Rattle.mount_answering.specs.session_saver.Saving.{world}
+use Rattle.mount_answering.specs.store_api.Content.{Changes}
+use Rattle.mount_answering.specs.store_api.Holdings.{Changed, FitsStore, IsFew, IsSpent}
+use Rattle.mount_answering.specs.mount_core.Showing.{ShowsFiles}
+use Rattle.mount_answering.proofs.tree_commands_lemmas.Shows.{files_same}
+use Rattle.mount_answering.specs.mount_core.Drawing.{NamesKnown}
+use Rattle.mount_answering.specs.mount_core.declared.body.Core.{Core}
 use Rattle.mount_answering.proofs.Lines.{whole_loaded}
-use Rattle.store_api.proofs.Draws.{later_same}
-use Rattle.store_api.proofs.Rising.{same_id_is}
-use Rattle.store_api.specs.Durables.{IsNewFile}
-use Rattle.answers.specs.declared.answer.Answer.TheVariants.{Memory}
-use Rattle.mount_core.specs.NoticeLaws.{none_came}
+use Rattle.mount_answering.proofs.store_api_lemmas.Draws.{later_same}
+use Rattle.mount_answering.proofs.store_api_lemmas.Rising.{same_id_is}
+use Rattle.mount_answering.specs.store_api.Durables.{IsNewFile}
+use Rattle.mount_answering.specs.answers.declared.answer.Answer.TheVariants.{Memory}
+use Rattle.mount_answering.specs.mount_core.NoticeLaws.{none_came}
 use Rattle.mount_migrating.specs.Migrating.{told, Renews}
 use Rattle.mount_migrating.specs.Noticing.{NoticedAlong}
 use Rattle.mount_migrating.proofs.Anew.{batch_spent, failed_reason, loaded_proceeds, memory_reason, raises_stays, renewed_proceeds, renewed_raises, unapplied_reason, unspent_by}

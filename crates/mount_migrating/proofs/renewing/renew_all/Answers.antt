@@ -1,10 +1,10 @@
 use Rattle.std.proofs.Common.{◌≡◌, ◌+◌, ◌∙◌, ◌++◌, suc, [], ◌∷◌, take, drop, get_or, refl, sym, ap, subst, add-one, arith}
 use Rattle.std.proofs.lemmas.List.{take-append-drop}
 use Rattle.std.specs.declared.result.Result.TheVariants.{Err}
-use Rattle.mount_core.specs.Showing.{ShowsFiles}
+use Rattle.mount_answering.specs.mount_core.Showing.{ShowsFiles}
 use Rattle.mount_migrating.specs.Migrating.{told, AreNew, AreUnspent, Raises}
 use Rattle.mount_migrating.proofs.Crowds.{is_in, is_next, listed, new_then, next_taken, raises_then, raises_wider, spent_then, turned, unspent_then}
-use Rattle.answers.specs.declared.answer.Answer.TheVariants.{Reply as Replied}
+use Rattle.mount_answering.specs.answers.declared.answer.Answer.TheVariants.{Reply as Replied}
 use Rattle.fs_model.specs.declared.reply.Reply.TheVariants.{Done}
 use Rattle.mount_migrating.proofs.Drawing.{draws_same, draws_then}
 use Rattle.mount_migrating.proofs.Noticing.{along_same, along_then}

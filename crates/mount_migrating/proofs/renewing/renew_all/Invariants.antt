@@ -1,11 +1,11 @@
 use Rattle.std.proofs.Common.{◌≡◌, take}
-use Rattle.answers.specs.declared.answer.Answer.TheVariants.{Reply as Replied}
+use Rattle.mount_answering.specs.answers.declared.answer.Answer.TheVariants.{Reply as Replied}
 use Rattle.fs_model.specs.declared.reply.Reply.TheVariants.{Done}
-use Rattle.session_saver.specs.Saving.{world}
-use Rattle.store_api.specs.Content.{Id}
-use Rattle.store_api.specs.Durables.{IsNewFile}
-use Rattle.mount_core.specs.Showing.{ShowsFiles}
-use Rattle.mount_core.specs.Standing.{Ready}
+use Rattle.mount_answering.specs.session_saver.Saving.{world}
+use Rattle.mount_answering.specs.store_api.Content.{Id}
+use Rattle.mount_answering.specs.store_api.Durables.{IsNewFile}
+use Rattle.mount_answering.specs.mount_core.Showing.{ShowsFiles}
+use Rattle.mount_answering.specs.mount_core.Standing.{Ready}
 use Rattle.mount_migrating.specs.Drawing.{DrawsAlong}
 use Rattle.mount_migrating.specs.Migrating.{AreNew, AreUnspent, Proceeds, Raises}
 use Rattle.mount_migrating.specs.Noticing.{NoticedAlong}

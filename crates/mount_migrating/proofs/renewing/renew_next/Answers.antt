@@ -1,5 +1,5 @@
 use Rattle.std.proofs.Common.{◌∙◌, [], ◌∷◌}
-use Rattle.mount_core.specs.Showing.{ShowsFiles}
+use Rattle.mount_answering.specs.mount_core.Showing.{ShowsFiles}
 use Rattle.mount_migrating.specs.Migrating.{told}
 use Rattle.mount_migrating.proofs.Chains.{renews_after, renews_stopped}
 use Rattle.mount_migrating.proofs.Drawing.{step_once, step_synced}

@@ -1,11 +1,11 @@
 use Rattle.std.proofs.Common.{◌≡◌, true, length, inl, refl, sym, ◌∙◌, ap, subst, arith, rules}
-use Rattle.data_nodes.specs.Layout.{IsPayloadLen}
+use Rattle.mount_core.specs.data_nodes.Layout.{IsPayloadLen}
 use Rattle.fs_model.specs.Tree.{empty_tree}
 use Rattle.outside.specs.Causes.{RoseBy}
 use Rattle.outside.specs.Going.{GoesOn, goes_on_equal}
-use Rattle.store_api.specs.Durables.{Identity, last_told}
-use Rattle.tree_commands.specs.Showing.{ShowsFiles}
-use Rattle.session_saver.proofs.Steps.{unless_directory, memory_directory, memory_state}
+use Rattle.mount_core.specs.store_api.Durables.{Identity, last_told}
+use Rattle.mount_core.specs.tree_commands.Showing.{ShowsFiles}
+use Rattle.mount_core.proofs.session_saver_lemmas.Steps.{unless_directory, memory_directory, memory_state}
 use Rattle.mount_opening.proofs.NewBlock.{fits_one, root_raised, always_ok, on_ok, only_one, made, made_config, fine_ok}
 use Rattle.mount_opening.proofs.making.make.Goals as goal
 

@@ -1,15 +1,15 @@
 use Rattle.std.proofs.Common.{◌≡◌, List, ℕ, [], ◌++◌, false, refl, sym, ◌∙◌, ap, subst}
-use Rattle.aes_gcm.specs.Gcm.{opened_of}
-use Rattle.local_state.specs.Record.{PlainState, plain_state, HasRecord}
+use Rattle.config_file.specs.aes_gcm.Gcm.{opened_of}
+use Rattle.session_saver.specs.local_state.Record.{PlainState, plain_state, HasRecord}
 use Rattle.outside.specs.View.{list_of}
-use Rattle.redo_vault.specs.Redo.{Redo}
-use Rattle.sealed_store.specs.Stores.{IsIntact, block_size_of}
-use Rattle.held_blocks.specs.StoreLaws.{steady_by}
-use Rattle.held_blocks.specs.Views.{held_of}
+use Rattle.integrity_store.specs.redo_vault.Redo.{Redo}
+use Rattle.integrity_store.specs.sealed_store.Stores.{IsIntact, block_size_of}
+use Rattle.integrity_store.specs.held_blocks.StoreLaws.{steady_by}
+use Rattle.integrity_store.specs.held_blocks.Views.{held_of}
 use Rattle.config_file.specs.Settings.{settings_of}
 use Rattle.config_file.specs.declared.config.Cipher.{Cipher}
 use Rattle.sha2.specs.Sha256.{sha256}
-use Rattle.store_api.specs.Holdings.{has_id}
+use Rattle.block_cache.specs.store_api.Holdings.{has_id}
 use Rattle.mount_tower.specs.Making.{IsUnchanged}
 use Rattle.mount_tower.specs.Identities.{holder_of, identity_for}
 use Rattle.mount_tower.specs.Tower.{sealed_held, sealed_trace, sealed_holdings}

@@ -1,5 +1,5 @@
 use Rattle.std.proofs.Common.{rules, false, refl}
-use Rattle.local_state.specs.Record.{plain_state}
+use Rattle.session_saver.specs.local_state.Record.{plain_state}
 use Rattle.mount_tower.proofs.Fresh.{fresh_record}
 use Rattle.mount_tower.proofs.making.new_state.Goals as goal
 

@@ -1,14 +1,14 @@
 use Rattle.std.proofs.Common.{◌≡◌, List, refl, sym, ◌∙◌, ap, subst, arith}
-use Rattle.aes_gcm.specs.Gcm.{opened_of}
+use Rattle.config_file.specs.aes_gcm.Gcm.{opened_of}
 use Rattle.outside.specs.Changes.{change_at}
 use Rattle.outside.specs.Trace.{Call, config}
 use Rattle.std.specs.declared.option.Option.{Option}
 use Rattle.outside.specs.View.{list_of}
-use Rattle.local_state.specs.Record.{plain_state, IsRecord}
-use Rattle.redo_vault.specs.Redo.{Redo}
-use Rattle.held_blocks.specs.Standing.{Stands}
-use Rattle.held_blocks.specs.Views.{held_of}
-use Rattle.held_blocks.specs.Stores.{IsNoBlock}
+use Rattle.session_saver.specs.local_state.Record.{plain_state, IsRecord}
+use Rattle.integrity_store.specs.redo_vault.Redo.{Redo}
+use Rattle.integrity_store.specs.held_blocks.Standing.{Stands}
+use Rattle.integrity_store.specs.held_blocks.Views.{held_of}
+use Rattle.integrity_store.specs.held_blocks.Stores.{IsNoBlock}
 use Rattle.integrity_store.specs.WaitingLaws.{in_order}
 use Rattle.config_file.specs.Settings.{settings_of}
 use Rattle.config_file.specs.declared.config.Cipher.{Cipher}

@@ -1,10 +1,10 @@
 use Rattle.std.proofs.Common.{sym, ◌∙◌, ap, subst, true}
-use Rattle.held_blocks.specs.Soundness.{IsUntouched}
-use Rattle.held_blocks.specs.Standing.{Stands}
+use Rattle.integrity_store.specs.held_blocks.Soundness.{IsUntouched}
+use Rattle.integrity_store.specs.held_blocks.Standing.{Stands}
 use Rattle.integrity_store.specs.declared.store.IntegrityStore.{IntegrityStore}
 use Rattle.config_file.specs.declared.config.Cipher.{Cipher}
-use Rattle.store_api.specs.Content.{SameContent}
-use Rattle.local_state.specs.Record.{plain_state}
+use Rattle.block_cache.specs.store_api.Content.{SameContent}
+use Rattle.session_saver.specs.local_state.Record.{plain_state}
 use Rattle.mount_tower.specs.Tower.{sealed_held, sealed_trace, sealed_holdings, sealed_durables}
 use Rattle.mount_tower.proofs.Found.{state_is}
 use Rattle.mount_tower.proofs.tower.cached_store.Given.{Over}

@@ -1,4 +1,4 @@
-use Rattle.outcome.specs.Outcome.{first_}
+use Rattle.path_walks.specs.outcome.Outcome.{first_}
 use Rattle.path_entries.proofs.Setting.{has_name_in, attributes_set, fits_still}
 use Rattle.path_entries.proofs.entries.set_entry_in.Goals as goal
 

@@ -1,5 +1,5 @@
 use Rattle.std.proofs.Common.{sym, ap, subst, ◌≤◌}
-use Rattle.outcome.specs.Outcome.{first_, idle}
+use Rattle.path_walks.specs.outcome.Outcome.{first_, idle}
 use Rattle.block_id.specs.declared.id.BlockId.{BlockId}
 use Rattle.fs_model.specs.declared.attr.Attr.{Attr}
 use Rattle.fs_model.specs.declared.limits.TheConstants.{MAX_MODE}

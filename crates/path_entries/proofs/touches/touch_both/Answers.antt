@@ -1,6 +1,6 @@
 use Rattle.std.proofs.Common.{sym, ◌∙◌}
 use Rattle.std.proofs.lemmas.Result.{err_from_is_err_and}
-use Rattle.outcome.specs.Outcome.{first_, then_, passed, answered}
+use Rattle.path_walks.specs.outcome.Outcome.{first_, then_, passed, answered}
 use Rattle.path_entries.proofs.Touching.{first, one, second}
 use Rattle.path_entries.proofs.touches.touch_both.Goals as goal
 

@@ -1,9 +1,9 @@
 use Rattle.std.proofs.Common.{refl, ◌∙◌, ap}
 use Rattle.std.proofs.lemmas.Result.{err_from_is_err_and}
-use Rattle.outcome.specs.Outcome.{first_, passed, answered, idle}
+use Rattle.dir_blob.specs.outcome.Outcome.{first_, passed, answered, idle}
 use Rattle.fs_model.specs.Tree.{is_directory}
 use Rattle.fs_model.specs.declared.error.FsError.TheVariants.{NotDirectory}
-use Rattle.dir_entries.specs.Places.{target_of}
+use Rattle.dir_blob.specs.dir_entries.Places.{target_of}
 use Rattle.path_walks.specs.declared.spots.Spot.TheVariants.{Wrong}
 use Rattle.path_walks.proofs.Steps.{at_spot, directory_seen, stepped_to, stepped_out, free_wrong, file_wrong, wrong_on, wrong_spot}
 use Rattle.path_walks.proofs.walks.advance.Goals as goal

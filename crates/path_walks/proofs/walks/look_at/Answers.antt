@@ -1,6 +1,6 @@
 use Rattle.std.proofs.Common.{ap, subst, Ok}
 use Rattle.std.proofs.lemmas.Result.{err_from_is_err_and}
-use Rattle.outcome.specs.Outcome.{Outcome, then_, failed_, answered}
+use Rattle.dir_blob.specs.outcome.Outcome.{Outcome, then_, failed_, answered}
 use Rattle.fs_model.specs.Tree.{upward, is_directory}
 use Rattle.forest.specs.Showing.{BlobsShow}
 use Rattle.path_walks.specs.Sights.{SightIs, sight_of}

@@ -1,5 +1,5 @@
 use Rattle.std.proofs.Common.{◌≡◌, take, Ok}
-use Rattle.outcome.specs.Outcome.{Outcome}
+use Rattle.dir_blob.specs.outcome.Outcome.{Outcome}
 use Rattle.fs_model.specs.Tree.{upward}
 use Rattle.forest.specs.Showing.{BlobsShow}
 use Rattle.path_walks.specs.Sights.{SpotIs, HasMode}

@@ -1,7 +1,7 @@
 use Rattle.std.proofs.Common.{sym, ◌∙◌, ap}
 use Rattle.fs_model.specs.Tree.{parent, upward, is_root}
 use Rattle.fs_model.specs.Step.{touched}
-use Rattle.tree_rules.proofs.PathLemmas.{not_root}
+use Rattle.row_table.proofs.tree_rules_lemmas.PathLemmas.{not_root}
 use Rattle.row_table.proofs.EditLemmas.{no_names}
 use Rattle.plain_tree.proofs.StepLemmas.{any_names, there_of, directory_gone, directory_full, no_directory}
 use Rattle.plain_tree.proofs.Refusals.{root_step, directory_refused}

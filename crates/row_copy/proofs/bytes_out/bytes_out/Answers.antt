@@ -1,6 +1,6 @@
 use Rattle.std.proofs.Common.{◌≡◌, ◌⊎◌, ℕ, ◌+◌, ◌<◌, ◌≤◌, length, take, refl, ◌∙◌, ap, subst, arith}
 use Rattle.std.specs.declared.result.Result.TheVariants.{Err}
-use Rattle.host_folder.specs.Folders.{IsAppended}
+use Rattle.copy_rules.specs.host_folder.Folders.{IsAppended}
 use Rattle.row_copy.proofs.ByKind.{faults_from, stops_from}
 use Rattle.row_copy.proofs.Chains.{still_faults}
 use Rattle.row_copy.proofs.Pouring.{out_none, out_unread, out_unput, out_last, out_more, out_ends}

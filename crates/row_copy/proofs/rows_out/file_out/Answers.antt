@@ -1,7 +1,7 @@
 use Rattle.std.proofs.Common.{◌≡◌, ◌⊎◌, [], ◌∙◌, subst, refl}
 use Rattle.std.specs.declared.result.Result.TheVariants.{Err}
 use Rattle.fs_model.specs.declared.attr.Kind.TheVariants.{File}
-use Rattle.host_folder.specs.Folders.{IsMade}
+use Rattle.copy_rules.specs.host_folder.Folders.{IsMade}
 use Rattle.row_copy.proofs.ByKind.{faults_from}
 use Rattle.row_copy.proofs.Exports.{row_unmade, file_row_part, file_row_out}
 use Rattle.row_copy.proofs.Served.{still_stops}

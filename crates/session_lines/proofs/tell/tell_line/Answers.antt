@@ -1,4 +1,4 @@
-use Rattle.script_text.specs.Grammar.{command_of}
+use Rattle.answers.specs.script_text.Grammar.{command_of}
 use Rattle.session_lines.proofs.Telling.{told}
 use Rattle.session_lines.proofs.tell.tell_line.Goals as goal
 

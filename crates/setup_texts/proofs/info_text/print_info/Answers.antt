@@ -1,5 +1,5 @@
 use Rattle.std.proofs.Common.{arith, rules, length, ap}
-use Rattle.config_file.specs.Settings.{settings_of}
+use Rattle.run_edges.specs.config_file.Settings.{settings_of}
 use Rattle.setup_texts.proofs.Short.{info_short}
 use Rattle.setup_texts.proofs.info_text.print_info.Goals as goal
 

@@ -2,7 +2,7 @@ use Rattle.std.proofs.Common.{◌≡◌, sym, ◌∙◌, ap, true}
 use Rattle.std.specs.Prelude.{take}
 use Rattle.std.proofs.lemmas.Result.{err_from_is_err_and}
 use Rattle.outside.specs.View.{bytes_of}
-use Rattle.outcome.specs.Outcome.{first_, then_, failed_, answered, no_memory}
+use Rattle.store_api.specs.outcome.Outcome.{first_, then_, failed_, answered, no_memory}
 use Rattle.store_api.specs.declared.tx.Tx.{Tx}
 use Rattle.store_api.specs.Content.{Changes, over}
 use Rattle.store_api.specs.Ids.{Drawn, stream_left}

@@ -1,4 +1,4 @@
-use Rattle.store_api.specs.Txs.{tx_meanings}
+use Rattle.store_session.specs.store_api.Txs.{tx_meanings}
 use Rattle.tower_paths.proofs.tower.answer_each.Given as goal
 
 abbrev pub invariant-loop-line : goal.invariant-loop-line

@@ -1,4 +1,4 @@
-use Rattle.store_api.specs.Txs.{intact_in}
+use Rattle.block_cache.specs.store_api.Txs.{intact_in}
 use Rattle.tower_tests.proofs.changes.give_new.Given as goal
 
 abbrev pub invariant-loop-one : goal.invariant-loop-one

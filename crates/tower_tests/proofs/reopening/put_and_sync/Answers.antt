@@ -1,7 +1,7 @@
 use Rattle.std.proofs.Common.{◌∙◌, ap, subst, Some}
 use Rattle.std.specs.FinMap as fin
-use Rattle.store_api.specs.Content.{over}
-use Rattle.store_api.specs.Durables.{Identity}
+use Rattle.block_cache.specs.store_api.Content.{over}
+use Rattle.block_cache.specs.store_api.Durables.{Identity}
 use Rattle.tower_tests.proofs.reopening.put_and_sync.Goals as goal
 
 pub returns-in-Ok-clause-kept : goal.returns-in-Ok-clause-kept

@@ -1,10 +1,10 @@
 use Rattle.std.proofs.Common.{◌≡◌, ◌∙◌, sym, ap, subst}
 use Rattle.outside.specs.View.{list_of}
-use Rattle.local_state.specs.Record.{plain_state, IsRecord}
+use Rattle.session_saver.specs.local_state.Record.{plain_state, IsRecord}
 use Rattle.outside.specs.Changes.{FileChanges}
-use Rattle.held_blocks.specs.Held.{Held}
-use Rattle.held_blocks.specs.Standing.{identity_of}
-use Rattle.held_blocks.specs.Views.{held_of}
+use Rattle.integrity_store.specs.held_blocks.Held.{Held}
+use Rattle.integrity_store.specs.held_blocks.Standing.{identity_of}
+use Rattle.integrity_store.specs.held_blocks.Views.{held_of}
 use Rattle.integrity_store.specs.Views.{held_by}
 use Rattle.integrity_store.specs.WaitingLaws.{in_order}
 use Rattle.tower_tests.proofs.Anew.{reopened}

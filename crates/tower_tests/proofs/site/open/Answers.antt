@@ -1,4 +1,4 @@
-use Rattle.local_state.specs.Record.{plain_state}
+use Rattle.session_saver.specs.local_state.Record.{plain_state}
 use Rattle.outside.specs.View.{list_of}
 use Rattle.integrity_store.specs.WaitingLaws.{in_order}
 use Rattle.tower_tests.proofs.site.open.Goals as goal

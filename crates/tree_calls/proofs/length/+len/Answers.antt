@@ -1,11 +1,11 @@
 use Rattle.std.proofs.Common.{◌≡◌, sym, ◌∙◌, ap, subst, drop, [], ◌∷◌, length, ◌+◌, ◌-◌, ◌<◌, arith, rules}
 use Rattle.std.proofs.lemmas.List.{length-map}
 use Rattle.block_id.specs.declared.id.BlockId.{BlockId}
-use Rattle.outcome.specs.Outcome.{idle, first_, then_, answered, passed}
-use Rattle.data_nodes.specs.Layout.{node_of, ids_of, fan_out, FitsPayload}
+use Rattle.data_tree.specs.outcome.Outcome.{idle, first_, then_, answered, passed}
+use Rattle.data_tree.specs.data_nodes.Layout.{node_of, ids_of, fan_out, FitsPayload}
 use Rattle.data_tree.specs.Trees.{span, depth_in}
 use Rattle.data_tree.specs.Needs.{HasBelow}
-use Rattle.store_api.specs.Txs.{tx_holdings, tx_laws}
+use Rattle.data_tree.specs.store_api.Txs.{tx_holdings, tx_laws}
 use Rattle.data_tree.proofs.Forests.{below_on, below_of, children_of, leaf_is, stays-then, stays-same}
 use Rattle.tree_calls.proofs.Lasts.{last_fits, last_of, last-length, sum_is}
 use Rattle.data_tree.proofs.Gathering.{last_child}

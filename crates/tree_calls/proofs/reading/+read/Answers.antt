@@ -1,10 +1,10 @@
 use Rattle.std.proofs.Common.{◌⊎◌, ◌++◌, sym, ◌∙◌, ap, inl, inr, arith, append-nil, drop, get_or, [], ◌≤◌, ◌+◌, List, refl, rules, subst}
 use Rattle.block_id.specs.declared.id.BlockId.{BlockId}
-use Rattle.outcome.specs.Outcome.{idle, first_, then_, failed_, answered, passed}
-use Rattle.data_nodes.specs.Layout.{node_of, ids_of, inner, FitsPayload}
+use Rattle.data_tree.specs.outcome.Outcome.{idle, first_, then_, failed_, answered, passed}
+use Rattle.data_tree.specs.data_nodes.Layout.{node_of, ids_of, inner, FitsPayload}
 use Rattle.tree_calls.specs.Reading.{between}
 use Rattle.data_tree.specs.Trees.{span, depth_in}
-use Rattle.store_api.specs.Txs.{tx_holdings, tx_laws}
+use Rattle.data_tree.specs.store_api.Txs.{tx_holdings, tx_laws}
 use Rattle.data_tree.proofs.Puts.{memory_first}
 use Rattle.tree_calls.proofs.Parts.{between-none}
 use Rattle.data_tree.proofs.Forests.{below_on, below_of, children_of, stays-then, stays-same, leaf_is}

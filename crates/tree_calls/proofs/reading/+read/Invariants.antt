@@ -1,12 +1,12 @@
 use Rattle.std.proofs.Common.{◌≡◌, ◌+◌, ◌*◌, drop}
 use Rattle.std.specs.Prelude.{Ok}
-use Rattle.outcome.specs.Outcome.{Outcome}
-use Rattle.store_api.specs.Holdings.{Stays}
-use Rattle.data_nodes.specs.Layout.{ids_of}
+use Rattle.data_tree.specs.outcome.Outcome.{Outcome}
+use Rattle.data_tree.specs.store_api.Holdings.{Stays}
+use Rattle.data_tree.specs.data_nodes.Layout.{ids_of}
 use Rattle.data_tree.specs.Needs.{HasTrees}
 use Rattle.tree_calls.specs.Reading.{ReadRest}
 use Rattle.tree_calls.specs.Reading.{between}
-use Rattle.store_api.specs.Txs.{tx_holdings, tx_meanings}
+use Rattle.data_tree.specs.store_api.Txs.{tx_holdings, tx_meanings}
 use Rattle.tree_calls.proofs.reading.+read.Given as goal
 
 abbrev pub decreases-read_below : goal.decreases-read_below

@@ -1,9 +1,9 @@
 use Rattle.std.proofs.Common.{◌≡◌, ◌∙◌, ap, ◌++◌, length, arith, true, subst, sym}
-use Rattle.data_nodes.specs.Layout.{node_of, FitsPayload}
-use Rattle.outcome.specs.Outcome.{then_, failed_, answered, unbuilt, passed}
+use Rattle.data_tree.specs.data_nodes.Layout.{node_of, FitsPayload}
+use Rattle.data_tree.specs.outcome.Outcome.{then_, failed_, answered, unbuilt, passed}
 use Rattle.tree_calls.specs.Reading.{between}
 use Rattle.data_tree.specs.Trees.{span}
-use Rattle.store_api.specs.Txs.{tx_holdings, tx_laws}
+use Rattle.data_tree.specs.store_api.Txs.{tx_holdings, tx_laws}
 use Rattle.data_tree.proofs.Forests.{below_on, below_root, stays-then}
 use Rattle.tree_calls.proofs.Parts.{all_between}
 use Rattle.data_tree.proofs.Puts.{unforged_before}

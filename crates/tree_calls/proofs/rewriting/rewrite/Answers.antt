@@ -1,9 +1,9 @@
 use Rattle.std.proofs.Common.{[], ◌∷◌}
-use Rattle.outcome.specs.Outcome.{idle, then_}
-use Rattle.data_nodes.specs.Layout.{node_of}
+use Rattle.data_tree.specs.outcome.Outcome.{idle, then_}
+use Rattle.data_tree.specs.data_nodes.Layout.{node_of}
 use Rattle.tree_calls.specs.Rewriting.{HasRootNode}
 use Rattle.data_tree.specs.Roots.{IsNewRoot}
-use Rattle.store_api.specs.Txs.{tx_holdings, tx_laws}
+use Rattle.data_tree.specs.store_api.Txs.{tx_holdings, tx_laws}
 use Rattle.data_tree.proofs.Puts.{changed_, keeps_same, keeps_below, memory_first}
 use Rattle.tree_calls.proofs.Anew.{old_below, anew}
 use Rattle.tree_calls.proofs.rewriting.rewrite.Goals as goal

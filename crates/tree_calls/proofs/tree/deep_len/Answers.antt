@@ -1,7 +1,7 @@
 use Rattle.std.proofs.Common.{sym, subst}
-use Rattle.data_nodes.specs.Layout.{node_of}
-use Rattle.outcome.specs.Outcome.{then_, passed}
-use Rattle.store_api.specs.Txs.{tx_laws}
+use Rattle.data_tree.specs.data_nodes.Layout.{node_of}
+use Rattle.data_tree.specs.outcome.Outcome.{then_, passed}
+use Rattle.data_tree.specs.store_api.Txs.{tx_laws}
 use Rattle.data_tree.specs.Roots.{IsAtLevel}
 use Rattle.data_tree.proofs.Forests.{below_on, below_root, stays-then}
 use Rattle.data_tree.proofs.Puts.{on_any, unforged_before}

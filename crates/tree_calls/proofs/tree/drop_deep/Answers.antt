@@ -1,8 +1,8 @@
 use Rattle.std.proofs.Common.{◌≡◌, None, true}
-use Rattle.data_nodes.specs.Layout.{node_of}
-use Rattle.outcome.specs.Outcome.{then_, passed}
+use Rattle.data_tree.specs.data_nodes.Layout.{node_of}
+use Rattle.data_tree.specs.outcome.Outcome.{then_, passed}
 use Rattle.data_tree.specs.Needs.{Sets}
-use Rattle.store_api.specs.Txs.{tx_holdings, tx_laws}
+use Rattle.data_tree.specs.store_api.Txs.{tx_holdings, tx_laws}
 use Rattle.data_tree.proofs.Ids.{drops_tree}
 use Rattle.data_tree.proofs.Changes.{below_changed}
 use Rattle.data_tree.proofs.Forests.{below_on, below_root, alone_root}

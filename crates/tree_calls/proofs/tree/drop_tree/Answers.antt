@@ -1,7 +1,7 @@
 -- The root alone where it is a leaf, and else what its inner nodes say.
 use Rattle.std.proofs.Common.{◌≡◌, [], sym, ◌∙◌, subst}
-use Rattle.outcome.specs.Outcome.{passed, then_}
-use Rattle.store_api.specs.Txs.{tx_holdings, tx_laws}
+use Rattle.data_tree.specs.outcome.Outcome.{passed, then_}
+use Rattle.data_tree.specs.store_api.Txs.{tx_holdings, tx_laws}
 use Rattle.data_tree.specs.Trees.{Replaces}
 use Rattle.data_tree.proofs.Forests.{root_at}
 use Rattle.data_tree.proofs.Heads.{leaf_shallow, lowest_ids, root_head, shallow_since}

@@ -1,7 +1,7 @@
 -- The head of a leaf, and else what the blocks of each level say.
 use Rattle.std.proofs.Common.{◌∙◌, sym}
-use Rattle.outcome.specs.Outcome.{answered, passed, then_}
-use Rattle.store_api.specs.Txs.{tx_holdings, tx_laws}
+use Rattle.data_tree.specs.outcome.Outcome.{answered, passed, then_}
+use Rattle.data_tree.specs.store_api.Txs.{tx_holdings, tx_laws}
 use Rattle.data_tree.proofs.Forests.{root_at, stays-then}
 use Rattle.data_tree.proofs.Heads.{leaf_shallow, lowest_len, root_head, shallow_since}
 use Rattle.tree_calls.proofs.tree.len.Goals as goal

@@ -1,8 +1,8 @@
 use Rattle.std.proofs.Common.{subst, length}
-use Rattle.outcome.specs.Outcome.{idle}
+use Rattle.data_tree.specs.outcome.Outcome.{idle}
 use Rattle.data_tree.specs.Trees.{IsDepth}
-use Rattle.store_api.specs.Txs.{changes_in, drawn_in, store_in, tx_laws}
-use Rattle.store_api.specs.Overlay.{changed_over}
+use Rattle.data_tree.specs.store_api.Txs.{changes_in, drawn_in, store_in, tx_laws}
+use Rattle.data_tree.specs.store_api.Overlay.{changed_over}
 use Rattle.tree_calls.proofs.Anew.{root_new}
 use Rattle.data_tree.proofs.Puts.{keeps_same, memory_first}
 use Rattle.tree_calls.proofs.tree.new_tree.Goals as goal

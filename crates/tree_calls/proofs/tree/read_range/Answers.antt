@@ -1,8 +1,8 @@
 use Rattle.std.proofs.Common.{◌≡◌, ◌∙◌, ap, ◌++◌, arith}
-use Rattle.data_nodes.specs.Layout.{node_of}
-use Rattle.outcome.specs.Outcome.{then_, failed_, answered, passed}
+use Rattle.data_tree.specs.data_nodes.Layout.{node_of}
+use Rattle.data_tree.specs.outcome.Outcome.{then_, failed_, answered, passed}
 use Rattle.tree_calls.specs.Reading.{between}
-use Rattle.store_api.specs.Txs.{tx_laws}
+use Rattle.data_tree.specs.store_api.Txs.{tx_laws}
 use Rattle.data_tree.proofs.Forests.{below_on, below_root, stays-then}
 use Rattle.tree_calls.proofs.Parts.{counted}
 use Rattle.data_tree.proofs.Puts.{unforged_before}

@@ -1,8 +1,8 @@
 use Rattle.std.proofs.Common.{◌∙◌, ap, take, replicate, ◌++◌, ◌-◌}
-use Rattle.data_nodes.specs.Layout.{node_of}
-use Rattle.outcome.specs.Outcome.{then_, no_memory, passed}
+use Rattle.data_tree.specs.data_nodes.Layout.{node_of}
+use Rattle.data_tree.specs.outcome.Outcome.{then_, no_memory, passed}
 use Rattle.block_id.specs.Contents.{resized}
-use Rattle.store_api.specs.Txs.{tx_laws}
+use Rattle.data_tree.specs.store_api.Txs.{tx_laws}
 use Rattle.tree_calls.proofs.Anew.{root_node, root_since}
 use Rattle.data_tree.proofs.Forests.{stays-then}
 use Rattle.data_tree.proofs.Puts.{on_any, unforged_before}

@@ -1,15 +1,15 @@
 use Rattle.std.proofs.Common.{refl, sym, ap, subst}
 use Rattle.std.specs.Prelude.{IfOk, IsTrue}
-use Rattle.outcome.specs.Outcome.{Outcome, idle}
+use Rattle.path_contents.specs.outcome.Outcome.{Outcome, idle}
 use Rattle.fs_model.specs.declared.command.Command.TheVariants as command
 use Rattle.fs_model.specs.declared.reply.Reply.TheVariants.{Done}
 use Rattle.fs_model.specs.Fitting.{IsFitting, is_target}
 use Rattle.fs_model.specs.Laws.{OnlyLooks}
 use Rattle.fs_model.specs.Step.{step}
-use Rattle.forest.specs.Showing.{BlobsShow, Performed}
+use Rattle.path_contents.specs.forest.Showing.{BlobsShow, Performed}
 use Rattle.tree_commands.specs.Replies.{IsReplyOf}
 use Rattle.tree_commands.specs.Sparing.{IsSparingIn}
-use Rattle.path_walks.proofs.Told.{stays}
+use Rattle.path_contents.proofs.path_walks_lemmas.Told.{stays}
 use Rattle.tree_commands.proofs.Fits.{target_fits, mode_fits_command}
 use Rattle.tree_commands.proofs.blobs.perform_on_blobs.Goals as goal
 

@@ -1,5 +1,5 @@
 use Rattle.std.specs.Prelude.{◌≡◌, length}
-use Rattle.data_nodes.specs.Layout.{leaf, IsNode}
+use Rattle.blob_store.specs.data_nodes.Layout.{leaf, IsNode}
 use Rattle.tree_commands.proofs.Shows.{leaf_shows, both_ok}
 use Rattle.tree_commands.proofs.commands.empty_root.Goals as goal
 

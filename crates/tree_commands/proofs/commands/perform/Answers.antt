@@ -1,4 +1,4 @@
-use Rattle.store_api.specs.Txs.{changes_in, tx_holdings, tx_meanings, tx_steady}
+use Rattle.blob_store.specs.store_api.Txs.{changes_in, tx_holdings, tx_meanings, tx_steady}
 use Rattle.tree_commands.proofs.Shows.{by_blocks}
 use Rattle.tree_commands.proofs.Spared.{spared_blocks}
 use Rattle.tree_commands.proofs.commands.perform.Goals as goal

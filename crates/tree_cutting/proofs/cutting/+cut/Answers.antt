@@ -2,14 +2,14 @@ use Rattle.std.proofs.Common.{◌≡◌, ◌≤◌, ◌<◌, ◌+◌, ◌-◌, �
 use Rattle.std.proofs.lemmas.List.{drop-map, length-drop, length-map, take-map, take_all}
 use Rattle.std.proofs.Math.Nat.{div-mul-le_self, lt-div-mul-add, mul-le-mul_right}
 use Rattle.block_id.specs.declared.id.BlockId.{BlockId}
-use Rattle.outcome.specs.Outcome.{Outcome, first_, idle, then_, failed_, unbuilt}
-use Rattle.data_nodes.specs.Layout.{node_of, ids_of, leaf, inner, fan_out, FitsPayload}
+use Rattle.data_tree.specs.outcome.Outcome.{Outcome, first_, idle, then_, failed_, unbuilt}
+use Rattle.data_tree.specs.data_nodes.Layout.{node_of, ids_of, leaf, inner, fan_out, FitsPayload}
 use Rattle.data_tree.specs.Needs.{HasTrees, SetsNode}
 use Rattle.data_tree.specs.Trees.{IsTree, Replaces, depth_in, span}
 use Rattle.data_tree.proofs.Forests.{below_of, below_on, children_of, forest-length, leaf_is, root_apart}
 use Rattle.data_tree.proofs.Gathering.{more_children, next_child}
 use Rattle.data_tree.proofs.Levels.{span-some}
-use Rattle.store_api.specs.Txs.{tx_holdings, tx_laws, tx_meanings, tx_steady}
+use Rattle.data_tree.specs.store_api.Txs.{tx_holdings, tx_laws, tx_meanings, tx_steady}
 use Rattle.data_tree.proofs.Puts.{changed_, keeps_below, keeps_same, memory_first}
 use Rattle.data_tree.proofs.Leaving.{drops_same, drops_then}
 use Rattle.tree_cutting.specs.Cutting.{OnlyBorder, IsCut, MayCut, MayCutNode, MayCutTrees}

@@ -2,14 +2,14 @@ use Rattle.std.proofs.Common.{◌≡◌, ◌≤◌, ◌<◌, ◌-◌, ◌∷◌,
 use Rattle.std.specs.Prelude.{is_some, None}
 use Rattle.std.proofs.lemmas.List.{drop-map, length-drop, length-map, take_all}
 use Rattle.block_id.specs.declared.id.BlockId.{BlockId}
-use Rattle.outcome.specs.Outcome.{Outcome, first_, then_, failed_, passed}
-use Rattle.data_nodes.specs.Layout.{node_of, ids_of, inner, FitsPayload}
+use Rattle.data_tree.specs.outcome.Outcome.{Outcome, first_, then_, failed_, passed}
+use Rattle.data_tree.specs.data_nodes.Layout.{node_of, ids_of, inner, FitsPayload}
 use Rattle.data_tree.specs.Needs.{HasTrees, Sets}
 use Rattle.data_tree.specs.Trees.{IsDepth, IsTree, Replaces, span}
 use Rattle.data_tree.proofs.Forests.{below_of, below_on, children_of}
 use Rattle.data_tree.proofs.Gathering.{next_child}
 use Rattle.data_tree.proofs.Levels.{span-some}
-use Rattle.store_api.specs.Txs.{tx_holdings, tx_laws, tx_meanings, tx_steady}
+use Rattle.data_tree.specs.store_api.Txs.{tx_holdings, tx_laws, tx_meanings, tx_steady}
 use Rattle.data_tree.proofs.Puts.{below_same, keeps_below, keeps_same}
 use Rattle.data_tree.proofs.Leaving.{drops_same, drops_then}
 use Rattle.tree_cutting.specs.Cutting.{OnlyBorder, IsCut, MayCutNode, MayCutTrees}

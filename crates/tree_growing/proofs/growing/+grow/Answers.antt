@@ -2,12 +2,12 @@ use Rattle.std.proofs.Common.{◌≡◌, ◌≤◌, ◌<◌, inl, inr, ◌+◌, 
 use Rattle.std.proofs.lemmas.List.{length-append, length-map, length-take, length-drop, take-append-drop, take_all}
 use Rattle.std.specs.FinMap.{get}
 use Rattle.block_id.specs.declared.id.BlockId.{BlockId}
-use Rattle.outcome.specs.Outcome.{first_, idle, answered, passed}
-use Rattle.data_nodes.specs.Layout.{node_of, ids_of, leaf, inner, fan_out, FitsPayload}
-use Rattle.store_api.specs.Overlay.{changed_over}
+use Rattle.data_tree.specs.outcome.Outcome.{first_, idle, answered, passed}
+use Rattle.data_tree.specs.data_nodes.Layout.{node_of, ids_of, leaf, inner, fan_out, FitsPayload}
+use Rattle.data_tree.specs.store_api.Overlay.{changed_over}
 use Rattle.data_tree.specs.Needs.{HasBelow, HasTrees}
 use Rattle.data_tree.specs.Trees.{span, depth_in}
-use Rattle.store_api.specs.Txs.{changes_in, drawn_in, store_in, tx_holdings, tx_laws, tx_steady}
+use Rattle.data_tree.specs.store_api.Txs.{changes_in, drawn_in, store_in, tx_holdings, tx_laws, tx_steady}
 use Rattle.data_tree.proofs.Forests.{children_of, leaf_is}
 use Rattle.data_tree.proofs.Levels.{span-some}
 use Rattle.data_tree.proofs.Leaving.{keeps_added, keeps_loaded, keeps_put, keeps_same_blocks, keeps_then}

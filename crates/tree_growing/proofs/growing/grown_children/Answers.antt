@@ -2,7 +2,7 @@ use Rattle.std.proofs.Common.{◌≡◌, ◌≤◌, ◌+◌, ◌*◌, ◌++◌, 
 use Rattle.std.proofs.lemmas.List.{length-append, length-take, map-append}
 use Rattle.std.proofs.Math.Nat.{mul-le-mul_right}
 use Rattle.block_id.specs.declared.id.BlockId.{BlockId}
-use Rattle.data_nodes.specs.Layout.{fan_out, ids_of}
+use Rattle.data_tree.specs.data_nodes.Layout.{fan_out, ids_of}
 use Rattle.data_tree.proofs.Counting.{count_few}
 use Rattle.tree_growing.proofs.growing.grown_children.Goals as goal
 

@@ -3,11 +3,11 @@ use Rattle.std.specs.Prelude.{min}
 use Rattle.std.proofs.lemmas.List.{length-drop, length-map, take_all}
 use Rattle.std.proofs.Math.Nat.{mul-le-mul_right}
 use Rattle.block_id.specs.declared.id.BlockId.{BlockId}
-use Rattle.data_nodes.specs.Layout.{fan_out, ids_of, inner, node_of, FitsPayload}
+use Rattle.data_tree.specs.data_nodes.Layout.{fan_out, ids_of, inner, node_of, FitsPayload}
 use Rattle.data_tree.specs.Needs.{BuiltTrees}
 use Rattle.data_tree.specs.Trees.{span}
 use Rattle.data_tree.proofs.Levels.{span-some}
-use Rattle.store_api.specs.Txs.{tx_holdings, tx_steady}
+use Rattle.data_tree.specs.store_api.Txs.{tx_holdings, tx_steady}
 use Rattle.data_tree.proofs.Puts.{keeps_same}
 use Rattle.data_tree.proofs.Leaving.{adds_then}
 use Rattle.tree_growing.specs.Growing.{Grown, MayGrow, Raised}

@@ -1,5 +1,5 @@
 use Rattle.std.proofs.Common.{◌≤◌, ◌*◌, sym, subst, arith}
-use Rattle.data_nodes.specs.Layout.{fan_out}
+use Rattle.data_tree.specs.data_nodes.Layout.{fan_out}
 use Rattle.data_tree.proofs.Levels.{span-some}
 use Rattle.tree_growing.proofs.Rising.{not_deep, span-doubles}
 use Rattle.tree_growing.proofs.raising.above.Goals as goal

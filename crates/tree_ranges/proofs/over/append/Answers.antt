@@ -1,18 +1,18 @@
 use Rattle.std.proofs.Common.{◌≡◌, ◌≤◌, ◌-◌, ◌++◌, sym, ◌∙◌, ap, subst, take, drop, length, true, inl, arith}
 use Rattle.std.proofs.lemmas.List.{take_all, length-drop}
 use Rattle.std.specs.FinMap.{get}
-use Rattle.outcome.specs.Outcome.{first_, unbuilt, passed}
-use Rattle.data_nodes.specs.Layout.{node_of, FitsPayload}
-use Rattle.store_api.specs.Overlay.{changed_over}
-use Rattle.data_tree.specs.Roots.{IsAtLevel}
-use Rattle.data_tree.specs.Trees.{IsDepth, span}
-use Rattle.data_tree.proofs.Leaving.{keeps_added, keeps_loaded, keeps_put, keeps_then}
-use Rattle.data_tree.proofs.Changes.{keeps-then}
-use Rattle.store_api.specs.Txs.{changes_in, drawn_in, store_in, tx_holdings, tx_laws}
-use Rattle.data_tree.proofs.Puts.{keeps_below, keeps_same, memory_after, unforged_on}
+use Rattle.tree_calls.specs.outcome.Outcome.{first_, unbuilt, passed}
+use Rattle.tree_calls.specs.data_nodes.Layout.{node_of, FitsPayload}
+use Rattle.tree_calls.specs.store_api.Overlay.{changed_over}
+use Rattle.tree_calls.specs.data_tree.Roots.{IsAtLevel}
+use Rattle.tree_calls.specs.data_tree.Trees.{IsDepth, span}
+use Rattle.tree_calls.proofs.data_tree_lemmas.Leaving.{keeps_added, keeps_loaded, keeps_put, keeps_then}
+use Rattle.tree_calls.proofs.data_tree_lemmas.Changes.{keeps-then}
+use Rattle.tree_calls.specs.store_api.Txs.{changes_in, drawn_in, store_in, tx_holdings, tx_laws}
+use Rattle.tree_calls.proofs.data_tree_lemmas.Puts.{keeps_below, keeps_same, memory_after, unforged_on}
 use Rattle.tree_growing.specs.Growing.{Raised}
 use Rattle.tree_ranges.specs.Ranges.{GrowsTo}
-use Rattle.data_tree.proofs.Borders.{border_top}
+use Rattle.tree_calls.proofs.data_tree_lemmas.Borders.{border_top}
 use Rattle.tree_growing.proofs.Borders.{put_only, then_only}
 use Rattle.tree_ranges.proofs.Borders.{root_only}
 use Rattle.tree_ranges.proofs.Roots.{root_then, root_grown, then_raised}

@@ -1,11 +1,11 @@
 use Rattle.std.proofs.Common.{◌≡◌, ◌≤◌, ◌<◌, ◌+◌, ◌-◌, ◌++◌, sym, ◌∙◌, ap, subst, take, drop, length, inl, inr, arith}
 use Rattle.std.proofs.lemmas.List.{length-append, length-drop, length-replicate}
 use Rattle.block_id.specs.Contents.{zeros, written}
-use Rattle.outcome.specs.Outcome.{first_, no_memory, then_, passed}
-use Rattle.data_tree.specs.Roots.{IsNewRoot}
-use Rattle.store_api.specs.Txs.{tx_holdings, tx_laws, tx_steady}
-use Rattle.data_tree.proofs.Forests.{stays-then}
-use Rattle.data_tree.proofs.Puts.{keeps_below, unforged_before}
+use Rattle.tree_calls.specs.outcome.Outcome.{first_, no_memory, then_, passed}
+use Rattle.tree_calls.specs.data_tree.Roots.{IsNewRoot}
+use Rattle.tree_calls.specs.store_api.Txs.{tx_holdings, tx_laws, tx_steady}
+use Rattle.tree_calls.proofs.data_tree_lemmas.Forests.{stays-then}
+use Rattle.tree_calls.proofs.data_tree_lemmas.Puts.{keeps_below, unforged_before}
 use Rattle.tree_ranges.specs.Border.{Grew}
 use Rattle.tree_ranges.specs.Ranges.{IsOpened}
 use Rattle.tree_writing.specs.Writing.{MayWrite, WroteTree, written_at}

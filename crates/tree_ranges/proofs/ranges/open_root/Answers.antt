@@ -1,11 +1,11 @@
 use Rattle.std.proofs.Common.{◌≡◌, true, length, sym, subst}
-use Rattle.data_nodes.specs.Layout.{node_of}
-use Rattle.outcome.specs.Outcome.{then_, failed_, answered, passed}
-use Rattle.data_tree.specs.Roots.{IsAtLevel}
-use Rattle.data_tree.proofs.Leaving.{leaves_then}
-use Rattle.store_api.specs.Txs.{tx_holdings, tx_laws}
-use Rattle.data_tree.proofs.Forests.{below_on, below_root, stays-then}
-use Rattle.data_tree.proofs.Puts.{unforged_before}
+use Rattle.tree_calls.specs.data_nodes.Layout.{node_of}
+use Rattle.tree_calls.specs.outcome.Outcome.{then_, failed_, answered, passed}
+use Rattle.tree_calls.specs.data_tree.Roots.{IsAtLevel}
+use Rattle.tree_calls.proofs.data_tree_lemmas.Leaving.{leaves_then}
+use Rattle.tree_calls.specs.store_api.Txs.{tx_holdings, tx_laws}
+use Rattle.tree_calls.proofs.data_tree_lemmas.Forests.{below_on, below_root, stays-then}
+use Rattle.tree_calls.proofs.data_tree_lemmas.Puts.{unforged_before}
 use Rattle.tree_ranges.proofs.ranges.open_root.Goals as goal
 
 pub returns-in-Ok-len_in-clause-outcome : goal.returns-in-Ok-len_in-clause-outcome

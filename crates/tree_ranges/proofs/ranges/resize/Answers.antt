@@ -2,13 +2,13 @@ use Rattle.std.proofs.Common.{◌≡◌, ◌-◌, ◌++◌, sym, ◌∙◌, ap, 
 use Rattle.std.specs.FinMap.{get}
 use Rattle.std.proofs.lemmas.List.{take_all, length-replicate}
 use Rattle.block_id.specs.Contents.{resized, zeros}
-use Rattle.outcome.specs.Outcome.{answered, no_memory, passed, then_}
-use Rattle.data_nodes.specs.Layout.{node_of}
-use Rattle.data_tree.specs.Roots.{IsAtLevel, IsNewRoot}
-use Rattle.data_tree.specs.Trees.{IsDepth, span}
-use Rattle.data_tree.proofs.Forests.{alone_root, below_on, below_root, root_at, stays-then}
-use Rattle.store_api.specs.Txs.{tx_holdings, tx_laws, tx_steady}
-use Rattle.data_tree.proofs.Puts.{keeps_below, on_any, unforged_before}
+use Rattle.tree_calls.specs.outcome.Outcome.{answered, no_memory, passed, then_}
+use Rattle.tree_calls.specs.data_nodes.Layout.{node_of}
+use Rattle.tree_calls.specs.data_tree.Roots.{IsAtLevel, IsNewRoot}
+use Rattle.tree_calls.specs.data_tree.Trees.{IsDepth, span}
+use Rattle.tree_calls.proofs.data_tree_lemmas.Forests.{alone_root, below_on, below_root, root_at, stays-then}
+use Rattle.tree_calls.specs.store_api.Txs.{tx_holdings, tx_laws, tx_steady}
+use Rattle.tree_calls.proofs.data_tree_lemmas.Puts.{keeps_below, on_any, unforged_before}
 use Rattle.tree_cutting.specs.Cutting.{OnlyBorder, MayCutNode}
 use Rattle.tree_ranges.proofs.Borders.{grew_nothing, grew_since}
 use Rattle.tree_cutting.proofs.Cuts.{cut_root_is, depth_least, on_ok_if}

@@ -2,14 +2,14 @@ use Rattle.std.proofs.Common.{◌≡◌, ◌≤◌, ◌+◌, true, refl, sym, �
 use Rattle.std.specs.FinMap as fin
 use Rattle.std.specs.Prelude.{is_some}
 use Rattle.block_id.specs.Contents.{pieces}
-use Rattle.outcome.specs.Outcome.{idle, then_, passed}
-use Rattle.data_nodes.specs.Layout.{node_of, room}
-use Rattle.data_tree.specs.Roots.{IsAtLevel}
-use Rattle.store_api.specs.Content.{Id}
-use Rattle.store_api.specs.Txs.{tx_holdings, tx_laws, tx_steady}
-use Rattle.data_tree.proofs.Counting.{is_zero, not_zero}
-use Rattle.data_tree.proofs.Forests.{root_at, stays-same, stays-then}
-use Rattle.data_tree.proofs.Puts.{keeps_below, on_any, unforged_before}
+use Rattle.tree_calls.specs.outcome.Outcome.{idle, then_, passed}
+use Rattle.tree_calls.specs.data_nodes.Layout.{node_of, room}
+use Rattle.tree_calls.specs.data_tree.Roots.{IsAtLevel}
+use Rattle.tree_calls.specs.store_api.Content.{Id}
+use Rattle.tree_calls.specs.store_api.Txs.{tx_holdings, tx_laws, tx_steady}
+use Rattle.tree_calls.proofs.data_tree_lemmas.Counting.{is_zero, not_zero}
+use Rattle.tree_calls.proofs.data_tree_lemmas.Forests.{root_at, stays-same, stays-then}
+use Rattle.tree_calls.proofs.data_tree_lemmas.Puts.{keeps_below, on_any, unforged_before}
 use Rattle.tree_ranges.specs.Border.{Grew}
 use Rattle.tree_writing.specs.Leaves.{OnlyLeaves}
 use Rattle.tree_writing.specs.Writing.{MayWriteNode}

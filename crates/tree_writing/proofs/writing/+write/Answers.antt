@@ -1,9 +1,9 @@
 use Rattle.std.proofs.Common.{◌≡◌, ◌+◌, ◌-◌, ◌*◌, ◌≤◌, sym, ◌∙◌, ap, subst, arith, length, List, [], take, drop, get_or, refl, ℕ, inl, rules}
 use Rattle.block_id.specs.declared.id.BlockId.{BlockId}
-use Rattle.outcome.specs.Outcome.{first_, idle, then_, failed_, answered}
-use Rattle.data_nodes.specs.Layout.{node_of, ids_of, leaf, inner, room, fan_out, FitsPayload, IsNode}
+use Rattle.data_tree.specs.outcome.Outcome.{first_, idle, then_, failed_, answered}
+use Rattle.data_tree.specs.data_nodes.Layout.{node_of, ids_of, leaf, inner, room, fan_out, FitsPayload, IsNode}
 use Rattle.tree_writing.specs.Writing.{MayWrite, MayWriteNode, MayWriteTrees, LeafCost}
-use Rattle.store_api.specs.Txs.{tx_holdings, tx_laws, tx_steady}
+use Rattle.data_tree.specs.store_api.Txs.{tx_holdings, tx_laws, tx_steady}
 use Rattle.data_tree.proofs.Forests.{below_of, root_apart, children_of, leaf_is, stays-same, stays-then}
 use Rattle.data_tree.proofs.Gathering.{next_child, no_child, more_children, all_children}
 use Rattle.data_tree.proofs.Counting.{is_zero, not_zero}

@@ -1,13 +1,13 @@
 use Rattle.std.proofs.Common.{◌≡◌, ◌≤◌, ◌+◌, ◌*◌, drop, take}
 use Rattle.std.specs.Prelude.{Ok, length, true, is_some}
-use Rattle.outcome.specs.Outcome.{Outcome}
-use Rattle.data_nodes.specs.Layout.{ids_of, room}
-use Rattle.store_api.specs.Content.{Id}
-use Rattle.store_api.specs.Holdings.{Stays}
+use Rattle.data_tree.specs.outcome.Outcome.{Outcome}
+use Rattle.data_tree.specs.data_nodes.Layout.{ids_of, room}
+use Rattle.data_tree.specs.store_api.Content.{Id}
+use Rattle.data_tree.specs.store_api.Holdings.{Stays}
 use Rattle.tree_writing.specs.Leaves.{OnlyAmong}
 use Rattle.tree_writing.specs.Writing.{MayWriteTrees, WriteRest, CostRest, written_at}
 use Rattle.std.specs.FinMap as fin
-use Rattle.store_api.specs.Txs.{tx_holdings, tx_meanings}
+use Rattle.data_tree.specs.store_api.Txs.{tx_holdings, tx_meanings}
 use Rattle.tree_writing.proofs.writing.+write.Given as goal
 
 abbrev pub decreases-write_below : goal.decreases-write_below

@@ -1,9 +1,9 @@
 use Rattle.std.proofs.Common.{◌+◌, ◌≤◌, subst, length, arith, inr}
-use Rattle.outcome.specs.Outcome.{idle}
-use Rattle.data_nodes.specs.Layout.{leaf}
-use Rattle.store_api.specs.Overlay.{changed_over}
+use Rattle.data_tree.specs.outcome.Outcome.{idle}
+use Rattle.data_tree.specs.data_nodes.Layout.{leaf}
+use Rattle.data_tree.specs.store_api.Overlay.{changed_over}
 use Rattle.data_tree.specs.Needs.{SetsNode}
-use Rattle.store_api.specs.Txs.{changes_in, drawn_in, store_in, tx_holdings, tx_laws}
+use Rattle.data_tree.specs.store_api.Txs.{changes_in, drawn_in, store_in, tx_holdings, tx_laws}
 use Rattle.data_tree.proofs.Puts.{memory_first}
 use Rattle.data_tree.proofs.Leaving.{keeps_put}
 use Rattle.tree_writing.proofs.Leaves.{others_or}

@@ -1,5 +1,5 @@
 use Rattle.std.proofs.Common.{◌≡◌, map, sym, ◌∙◌, ap, subst, refl, Some}
-use Rattle.store_api.specs.Content.{id_cmp}
+use Rattle.data_tree.specs.store_api.Content.{id_cmp}
 use Rattle.row_table.specs.Sorted.{IsElementAt}
 use Rattle.std.proofs.Math.ListN.{set}
 use Rattle.block_walk.specs.Marks.{mark_entry, owner_of, MarkedOne}

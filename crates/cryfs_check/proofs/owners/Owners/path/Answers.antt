@@ -4,8 +4,8 @@ use Rattle.std.specs.List.{slice_get}
 use Rattle.std.specs.Option.{option_map}
 use Rattle.std.proofs.lemmas.Option.{slice_get-map}
 use Rattle.fs_model.specs.Tree.{Path}
-use Rattle.store_api.specs.Content.{Id}
-use Rattle.block_walk.specs.Marks.{mark_entry}
+use Rattle.check_rules.specs.store_api.Content.{Id}
+use Rattle.check_rules.specs.block_walk.Marks.{mark_entry}
 use Rattle.cryfs_check.specs.declared.place.Place.{Place}
 use Rattle.cryfs_check.specs.Places.{places_text, paths_of}
 use Rattle.cryfs_check.proofs.owners.Owners.path.Goals as goal

@@ -1,6 +1,6 @@
 use Rattle.std.proofs.Common.{◌≤◌, length, ap, arith}
 use Rattle.std.proofs.lemmas.List.{length-map}
-use Rattle.listing.specs.declared.directory_names.TheConstants.{MAX_NAMES}
+use Rattle.memory_outside.specs.listing.declared.directory_names.TheConstants.{MAX_NAMES}
 use Rattle.outside.specs.View.{pending_of}
 use Rattle.honest_outside.proofs.Listing.{never_fails, honest_after}
 use Rattle.honest_outside.proofs.honest_vault.HonestVaultListing.list.Goals as goal

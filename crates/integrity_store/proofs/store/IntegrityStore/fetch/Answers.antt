@@ -1,11 +1,11 @@
 use Rattle.std.proofs.Common.{rules, ◌≡◌, ◌+◌, ◌-◌, ◌^◌, min, refl, ◌∙◌, ap, subst, arith}
 use Rattle.std.specs.declared.result.Result.TheVariants.{Err}
 use Rattle.block_id.specs.declared.fail.Fail.TheVariants.{Memory, Fault}
-use Rattle.sealed_store.specs.BlockFiles.{front_seen, seen_file_in}
-use Rattle.sealed_store.specs.Stores.{Unseen}
-use Rattle.held_blocks.specs.Held.{waiting}
-use Rattle.held_blocks.specs.Loads.{FetchedFront, fetched_of}
-use Rattle.held_blocks.proofs.Fronts.{answer_by, fetched_front}
+use Rattle.batch_sealing.specs.sealed_store.BlockFiles.{front_seen, seen_file_in}
+use Rattle.batch_sealing.specs.sealed_store.Stores.{Unseen}
+use Rattle.batch_sealing.specs.held_blocks.Held.{waiting}
+use Rattle.batch_sealing.specs.held_blocks.Loads.{FetchedFront, fetched_of}
+use Rattle.batch_sealing.proofs.held_blocks_lemmas.Fronts.{answer_by, fetched_front}
 use Rattle.integrity_store.specs.Views.{held_by}
 use Rattle.integrity_store.proofs.store.IntegrityStore.fetch.Goals as goal
 

@@ -1,9 +1,9 @@
 use Rattle.std.proofs.Common.{refl}
-use Rattle.held_blocks.specs.Views.{held_of}
-use Rattle.held_blocks.proofs.Reopening.{opened_stands, few_used}
-use Rattle.held_blocks.proofs.Untouched.{untouched_sound}
+use Rattle.batch_sealing.specs.held_blocks.Views.{held_of}
+use Rattle.batch_sealing.proofs.held_blocks_lemmas.Reopening.{opened_stands, few_used}
+use Rattle.batch_sealing.proofs.held_blocks_lemmas.Untouched.{untouched_sound}
 use Rattle.local_state.specs.Record.{plain_state}
-use Rattle.sealed_store.specs.Stores.{cipher_of, key_of}
+use Rattle.batch_sealing.specs.sealed_store.Stores.{cipher_of, key_of}
 use Rattle.integrity_store.proofs.store.IntegrityStore.new.Goals as goal
 
 pub returns-clause-intact : goal.returns-clause-intact

@@ -1,9 +1,9 @@
 use Rattle.std.proofs.Common.{◌∙◌}
 use Rattle.std.specs.FinMap as fin
-use Rattle.block_records.specs.BlockRecords.{payload_in}
-use Rattle.held_blocks.specs.Held.{file_of, told_or_none}
+use Rattle.batch_sealing.specs.block_records.BlockRecords.{payload_in}
+use Rattle.batch_sealing.specs.held_blocks.Held.{file_of, told_or_none}
 use Rattle.integrity_store.specs.Views.{held_by}
-use Rattle.held_blocks.proofs.Loading.{live_wanted}
+use Rattle.batch_sealing.proofs.held_blocks_lemmas.Loading.{live_wanted}
 use Rattle.integrity_store.proofs.store.IntegrityStoreBlocks.contains.Goals as goal
 
 pub returns : goal.returns

@@ -1,4 +1,4 @@
-use Rattle.held_blocks.proofs.Freshness.{first_free}
+use Rattle.batch_sealing.proofs.held_blocks_lemmas.Freshness.{first_free}
 use Rattle.integrity_store.proofs.store.IntegrityStoreBlocks.fresh.Goals as goal
 
 pub returns : goal.returns

@@ -1,10 +1,10 @@
 use Rattle.std.proofs.Common.{◌≡◌, ◌∙◌, ap, sym, subst}
 use Rattle.std.specs.Prelude.{IfOk}
-use Rattle.config_file.specs.declared.config.Cipher.{Cipher}
-use Rattle.data_nodes.specs.Layout.{ids_of}
-use Rattle.integrity_store.specs.declared.store.IntegrityStore.{IntegrityStore}
-use Rattle.local_state.specs.Known.{live_ids}
-use Rattle.local_state.specs.declared.state.State.{State}
+use Rattle.mount.specs.config_file.declared.config.Cipher.{Cipher}
+use Rattle.mount.specs.data_nodes.Layout.{ids_of}
+use Rattle.mount.specs.integrity_store.declared.store.IntegrityStore.{IntegrityStore}
+use Rattle.mount.specs.local_state.Known.{live_ids}
+use Rattle.mount.specs.local_state.declared.state.State.{State}
 use Rattle.mount_blocks.specs.Examined.{held_of}
 use Rattle.mount_blocks.proofs.Living.{ids_rise, ids_live, has_payload, listed}
 use Rattle.mount_blocks.proofs.examined.Examined.live_ids.Given.{Over}
