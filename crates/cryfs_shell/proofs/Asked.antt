@@ -18,7 +18,7 @@ use Rattle.cryfs_shell.specs.History.{HasHistory}
 use Rattle.cryfs_shell.specs.Kinds.{is_session, is_migration, opens, draws, copies, seals}
 use Rattle.cryfs_shell.specs.Streams.{Streams}
 use Rattle.cryfs_shell.proofs.Doing.{the_form, doing_faults, doing_refusal, doing_alarm, doing_keeps, doing_emptied, doing_uncalled, doing_usage, doing_host}
-use Rattle.cryfs_shell.proofs.Histories.{other_form, doing_history}
+use Rattle.cryfs_shell.proofs.CallRuns.{other_form, doing_history}
 use Rattle.cryfs_shell.proofs.Naming.{doing_named, doing_streams}
 
 module _ {V : Type 0} {K : Type 0} (trace : V → Option (List Call)) (faults : V → ℕ) (names : V → Option (List (List ℕ))) (G : KeeperGhosts K) (words : List (List ℕ)) (now : Instant) (s : Streams) (vault : V) (keeper : K) (ended : Ended V K)

@@ -20,7 +20,7 @@ use Rattle.cryfs_shell.specs.Doing.{Did}
 use Rattle.cryfs_shell.specs.History.{Comes, Judges, Meets, HasHistory}
 use Rattle.cryfs_shell.specs.Hosts.{IsStill}
 use Rattle.cryfs_shell.specs.Streams.{Streams}
-use Rattle.cryfs_shell.proofs.Histories.{idly}
+use Rattle.cryfs_shell.proofs.CallRuns.{idly}
 use Rattle.cryfs_shell.proofs.Sessions.{one_unread, unread_keeps, stays_grown}
 use Rattle.block_id.proofs.Conditions.{no_fewer}
 

@@ -9,7 +9,7 @@ pub mod Migrations
 pub mod TrialEnds
 pub mod Doing
 pub mod Naming
-pub mod Histories
+pub mod CallRuns
 pub mod Files
 mod Idle
 mod Asked
