@@ -220,7 +220,7 @@ def run_behind(program, call, first):
         os.kill(process, signal.SIGKILL)
         os.write(errors, b"cryfs: input fault\n")
     os.close(into)
-    os.write(ended, b".")
+    running.let_end(ended)
     status = running.wait(process)
     running.end(status if is_whole or not call.takes_bytes() else INPUT_FAULT, errors, call)
 

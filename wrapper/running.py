@@ -105,6 +105,14 @@ def hold_open(process, lives):
         os._exit(0)
 
 
+def let_end(ended):
+    """Says on this file that the input has ended, where the process that waits for it hasn't ended with the program."""
+    try:
+        os.write(ended, b".")
+    except BrokenPipeError:
+        pass
+
+
 def wait(process):
     """The status of a process, negative for a signal."""
     status = os.waitpid(process, 0)[1]
