@@ -4,10 +4,13 @@
     tools/costs.py rt ci
 
 The log of `rt` has no times. So the provers that the command starts are looked at every half second, and each one's last
-figures count: some tenths of a second are missing for each. Crates that are kept from an earlier run cost nothing."""
+figures count: some tenths of a second are missing for each. Crates that are kept from an earlier run cost nothing. Where
+it is interrupted or ended by SIGTERM, it ends the command and prints what was measured so far. The last line has the
+minutes on the clock, and those of processor."""
 import collections
 import os
 import re
+import signal
 import subprocess
 import sys
 import time
@@ -53,16 +56,24 @@ def subject(process):
     return (name, kind) if name else None
 
 
+def note(top, seconds, subjects):
+    """Notes the seconds by process, with what each is for, of all that the command started."""
+    seen = {int(it): look(it) for it in os.listdir("/proc") if it.isdigit()}
+    seen = {process: it for process, it in seen.items() if it}
+    for process in below(top.pid, {process: it[0] for process, it in seen.items()}):
+        subjects[process] = subject(process) or subjects.get(process)
+        seconds[process] = seen[process][1]
+
+
 def measure(top):
-    """Seconds by process, with what each was for, of all that the command started."""
+    """Seconds by process, with what each was for, until the command ends or this is told to end."""
     seconds, subjects = {}, {}
-    while top.poll() is None:
-        seen = {int(it): look(it) for it in os.listdir("/proc") if it.isdigit()}
-        seen = {process: it for process, it in seen.items() if it}
-        for process in below(top.pid, {process: it[0] for process, it in seen.items()}):
-            subjects[process] = subject(process) or subjects.get(process)
-            seconds[process] = seen[process][1]
-        time.sleep(0.5)
+    try:
+        while top.poll() is None:
+            note(top, seconds, subjects)
+            time.sleep(0.5)
+    except KeyboardInterrupt:
+        top.terminate()
     return [(subjects[it], seconds[it]) for it in seconds if subjects[it]]
 
 
@@ -74,6 +85,8 @@ def names():
 
 
 def main(words):
+    signal.signal(signal.SIGTERM, signal.default_int_handler)
+    begun = time.monotonic()
     with subprocess.Popen(words) as top:
         found = measure(top)
     sums = collections.Counter()
@@ -85,6 +98,7 @@ def main(words):
         if any(row):
             print("| " + " | ".join([name, *row]) + " |")
     print("| all | " + " | ".join(f"{sum(it for (_, one), it in sums.items() if one == kind):.0f}" for kind in KINDS) + " |")
+    print(f"\n{(time.monotonic() - begun) / 60:.1f} minutes, {sum(sums.values()) / 60:.0f} of processor")
     return top.returncode
 
 
