@@ -7,7 +7,8 @@
 
 An edit has the form of those in must-fail/: `file:`, `old:` and `new:`, a line each. One that the contracts let
 through begins with a line `hole: SENTENCE`, which says what no clause says. Each is tried by `rt must-fail` in a copy
-of the crate and of those that it stands on, so nothing here changes. A line is printed for each edit:
+of the crate and of those that it stands on, so nothing here changes. Libraries that earlier checks here built of the same
+text are taken over; `rt` builds the others first. A line is printed for each edit:
 
     NAME: refused by `GOAL` of PLACE    the first goal that stays open
     NAME: proved (HOLE)                 the crate is proved with it
@@ -73,6 +74,14 @@ def stands_on(name):
     return found
 
 
+def link_or_copy(one, other):
+    """Gives a file of a library a second name: `rt` never writes into one, and removes it before it makes it anew."""
+    try:
+        os.link(one, other)
+    except OSError:
+        shutil.copy2(one, other)
+
+
 def lay_out(room, name, plants):
     """Makes a repository that has the crate, what it stands on, and the plants where the edits of the gate stand."""
     os.makedirs(f"{room}/.git")
@@ -86,6 +95,8 @@ def lay_out(room, name, plants):
         for part in ("src", "specs", "proofs"):
             if os.path.isdir(f"{TOP}/crates/{one}/{part}"):
                 shutil.copytree(f"{TOP}/crates/{one}/{part}", f"{room}/crates/{one}/{part}")
+        if one != name and os.path.isdir(f"{TOP}/crates/{one}/out/rlib"):
+            shutil.copytree(f"{TOP}/crates/{one}/out/rlib", f"{room}/crates/{one}/out/rlib", copy_function=link_or_copy)
     os.makedirs(f"{room}/crates/{name}/must-fail")
     for it in plants:
         shutil.copyfile(f"{TOP}/crates/{name}/plants/{it}.edit", f"{room}/crates/{name}/must-fail/{it}.edit")
