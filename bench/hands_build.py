@@ -64,10 +64,9 @@ def notices_a_change(tree):
     os.remove(f"{tree.top}/crates/block_id/proofs/more.antt")
     is_told_once(tree)
     tree.build()
-    tree.write("crates/block_id/src/lib.rt", "pub fn two() {}\n\n#[cfg(test)]\nmod tests;\n")
-    tree.write("crates/block_id/src/tests.rt", "use super::*;\n")
-    tree.write("crates/block_id/must-fail/two/src/lib.rt", "pub fn wrong() {}\n")
-    same(notice(tree), "", "after a change of tests and wrong bodies")
+    tree.write("crates/block_id/must-fail/two.edit", "file: src/lib.rt\n")
+    tree.write("crates/block_id/plants/three.edit", "file: src/lib.rt\n")
+    same(notice(tree), "", "after a change of wrong bodies")
 
 
 def notices_a_change_that_is_undone(tree):

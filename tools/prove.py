@@ -1,13 +1,13 @@
 #!/usr/bin/env python3
-"""Has `rt ci` prove and build a program and all that it stands on, without the tests.
+"""Has `rt ci` prove and build a program and all that it stands on. No crate of tests is among those.
 
     tools/prove.py NAME
     tools/prove.py sum NAME    prints one sum of what the first would copy
 
 `rt ci` proves each crate over the statements of those below it, the longest chain of crates first, as many side by side
-as there are processors and memory for. It works in a room of its own, which holds the sources less their tests and
-wrong bodies: these belong to the gate. First `copied SUM` and `crates COUNT` are printed. The lines of rt come as it
-prints them, and the program is then moved to crates/NAME/out/NAME. Ends with the status of rt."""
+as there are processors and memory for. It works in a room of its own, which holds the sources less their wrong
+bodies: these belong to the gate. First `copied SUM` and `crates COUNT` are printed. The lines of rt come as it prints
+them, and the program is then moved to crates/NAME/out/NAME. Ends with the status of rt."""
 
 import hashlib
 import os
@@ -18,8 +18,6 @@ import subprocess
 import sys
 
 TOP = os.path.dirname(os.path.dirname(os.path.abspath(__file__)))
-# A module of tests: its file's name, or its text up to the bracket that ends it.
-TESTS = re.compile(r"\n*^#\[cfg\(test\)\]\nmod (\w+)(?:;| \{.*?^\})$", re.MULTILINE | re.DOTALL)
 # How a file is read and written as it is, also where it isn't UTF-8.
 BYTES = {"encoding": "utf-8", "errors": "surrogateescape", "newline": ""}
 
@@ -41,20 +39,18 @@ def is_left(name):
 
 
 def sources(name):
-    """The files of a crate by their paths, less wrong bodies, modules of tests and what is written on their proofs."""
+    """The files of a crate by their paths, less wrong bodies. Tests stand in crates of their own."""
     top, files = f"{TOP}/crates/{name}", {}
     for folder, below, names in os.walk(top):
         below[:] = [it for it in below if it not in ("out", "must-fail", "plants") and not is_left(it)]
         for it in names:
             if not is_left(it) and stat.S_ISREG(os.lstat(f"{folder}/{it}").st_mode):
                 files[os.path.relpath(f"{folder}/{it}", top)] = read(f"{folder}/{it}")
-    tests = {it for path, text in files.items() if path.startswith("src/") for it in TESTS.findall(text)}
-    is_of_tests = lambda path: path.split("/")[1:2] and re.split("[/.]", path)[1] in tests
-    return {path: TESTS.sub("", text) for path, text in files.items() if not is_of_tests(path)}
+    return files
 
 
 def stands_on(name):
-    """Of the program and each crate that it stands on without tests: its files, and the libraries that they name."""
+    """Of the program and each crate that it stands on: its files, and the libraries that they name."""
     lines, found, left = read_lines(), {}, [name]
     while left:
         one = left.pop()
