@@ -101,6 +101,18 @@ def source_line(source):
     return line + b"\n"
 
 
+def only_line(call):
+    """The line by which it opens, from wherever it comes."""
+    if call.source:
+        return source_line(call.source)
+    if os.isatty(0):
+        return asked_lines(call)
+    given = lines_given(1, call.command)
+    if given is None:
+        raise Refused("the input can't be read, whose first line is the password")
+    return given if given.endswith(b"\n") else given + b"\n"
+
+
 def check_apart(source):
     """Refuses a password's file that is the input too: of its bytes some would be lost, or come twice."""
     option, value = source
@@ -142,6 +154,6 @@ def lines_given(count, command):
         given += piece
     lines = given.split(b"\n", count)
     if not given or len(lines) < count or not (lines[count - 1] or len(lines) > count):
-        which = "password" if command == "create" else "new password"
+        which = "new password" if command == "passwd" else "password"
         raise Refused(f"the input ended before the {which}: nothing was done; {ON_PURPOSE.format(command)}")
     return b"".join(line + b"\n" for line in lines[:count]) if len(lines) > count else given

@@ -12,6 +12,8 @@ COMMANDS = ("create", "info", "passwd", "migrate", "check", "shell", *COPIES, *F
 CREATE_OPTIONS = ("--blocksize", "--scrypt-n", "--scrypt-r", "--scrypt-p")
 # Words that may stand behind those of a command.
 LATE_OPTIONS = {"import": ("--quiet", "--leave-out"), "export": ("--quiet",), "check": ("--quiet",)}
+# The word behind `rm` by which all below a path goes with it.
+WHOLE = "-r"
 PASSWORD_OPTIONS = ("--password-file", "--password-command")
 
 
@@ -59,8 +61,13 @@ class Call:
         """Whether its input holds more than the password by which it opens."""
         return self.takes_lines() or self.takes_bytes() or self.command == "passwd"
 
+    def removes_tree(self):
+        """Whether it removes what is at a path with all below it, by the lines of a session."""
+        return self.command == "rm" and self.rest[1:2] == [WHOLE]
+
     def words(self):
-        return [self.blocks, self.state, *self.rest]
+        """The words of the program."""
+        return [self.blocks, self.state, *(["shell"] if self.removes_tree() else self.rest)]
 
     def check_folders(self):
         """Refuses folders that would give the record to whoever holds the blocks, and a record that isn't there."""
@@ -118,7 +125,9 @@ def check_command(words):
         raise Refused(f"{command} takes no more words", USAGE)
     if command == "check":
         check_late(command, more[1:] if more[:1] == ["--all"] else more)
-    if command in LINES:
+    if command == "rm" and more[:1] == [WHOLE]:
+        check_whole(more[1:])
+    elif command in LINES:
         check_line(LINES[command], more)
     if command in COPIES:
         check_copy(command, more)
@@ -167,6 +176,15 @@ def check_file(command, words):
         bytes_of = "its bytes are the input, as by < FILE" if command == "put" else "its bytes are the output, as by > FILE"
         raise Refused(f"the words are {command} PATH: a file of the file system; {bytes_of}", USAGE)
     check_path(words[0])
+
+
+def check_whole(words):
+    """Refuses what isn't one path below the root."""
+    if len(words) != 1:
+        raise Refused(f"the words are rm {WHOLE} PATH: it removes what is at PATH, and all below it", USAGE)
+    check_path(words[0])
+    if words[0] == "/":
+        raise Refused(f"the root can't be removed: rm {WHOLE} each path that ls / lists", USAGE)
 
 
 def check_path(word):
