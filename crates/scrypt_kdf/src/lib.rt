@@ -9,11 +9,10 @@ mod order;
 mod params;
 mod pbkdf;
 mod salsa;
-#[cfg(test)]
-mod tests;
 
 pub use hmac::hmac_sha256;
 pub use kdf::scrypt;
+pub use mix::{mix_blocks, ro_mix};
 pub use params::{BadParams, Params};
 pub use pbkdf::pbkdf2;
 pub use salsa::salsa20_8;

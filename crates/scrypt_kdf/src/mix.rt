@@ -12,8 +12,9 @@ use std::alloc::AllocError;
 
 const BLOCK_LEN: usize = 64;
 
-/// ROMix of `x`, 128 * r bytes, in place; `v` is to have room for N times as many.
-pub(crate) fn ro_mix(r: usize, n: usize, x: &mut [u8], v: &mut Vec<u8>) -> Result<(), AllocError>
+/// scryptROMix (RFC 7914, section 5) of `x`, 128 * r bytes, in place, over N iterates that it leaves in `v`. The
+/// error is want of memory, and then no clause says what `x` holds.
+pub fn ro_mix(r: usize, n: usize, x: &mut [u8], v: &mut Vec<u8>) -> Result<(), AllocError>
     requires r_low { 1 ≤ r }
     requires r_high { r ≤ 8 }
     requires power { IsPowerOfTwo n }
@@ -117,6 +118,20 @@ pub(crate) fn block_mix(r: usize, b: &[u8], y: &mut [u8])
         store(odd, &mut y[at..at + BLOCK_LEN]);
         x = odd;
     }
+}
+
+/// scryptBlockMix (RFC 7914, section 4) of `b` into `y`, both of 128 * r bytes. `b` is left with its words in another
+/// order.
+pub fn mix_blocks(r: usize, b: &mut [u8], y: &mut [u8])
+    requires r_low { 1 ≤ r }
+    requires r_high { r ≤ 8 }
+    requires from { length b.old ≡ 128 * r }
+    requires to { length y.old ≡ 128 * r }
+    ensures { y.new ≡ block_mix r b.old }
+{
+    reorder(b, TO_DIAGONALS);
+    block_mix(r, b, y);
+    reorder(y, FROM_DIAGONALS);
 }
 
 /// Part `i` of `b`, in parts of `len` bytes.
