@@ -1,4 +1,6 @@
 // The cipher on eight blocks, against its standard and against the cipher on one block.
+ghost use Rattle.std.specs.Prelude.{◌<◌};
+
 use aes_bits::KeyPlanes;
 use aes_block::KeySchedule;
 
@@ -29,40 +31,67 @@ fn meets_the_example(rt: HostRuntime) {
     let keys = KeyPlanes::from_key(&COUNTING);
     assert!(rt; keys.encrypt_block(block) == text);
     for place in 0..8 {
-        let mut blocks = [[0; 16]; 8];
-        blocks[place] = block;
-        assert!(rt; plain.encrypt_blocks(&blocks)[place] == text, "at {place}");
-        assert!(rt; keys.encrypt_blocks(&blocks)[place] == text, "at {place}");
+        assert!(rt; encrypts_at(&plain, block, place) == text, "at {place}");
+        assert!(rt; encrypts_at(&keys, block, place) == text, "at {place}");
     }
+}
+
+/// What a block is encrypted to in one of the eight places.
+fn encrypts_at(keys: &KeyPlanes, block: [u8; 16], place: usize) -> [u8; 16]
+    requires { place < 8 }
+{
+    let mut blocks: [[u8; 16]; 8] = [[0; 16]; 8];
+    blocks[place] = block;
+    keys.encrypt_blocks(&blocks)[place]
+}
+
+/// Eight blocks whose bytes count.
+fn counting_blocks() -> [[u8; 16]; 8] {
+    let mut blocks: [[u8; 16]; 8] = [[0; 16]; 8];
+    for place in 0..8u8 {
+        for byte in 0..16u8 {
+            blocks[place as usize][byte as usize] = 16 * place + byte;
+        }
+    }
+    blocks
+}
+
+/// Eight blocks, encrypted one by one.
+fn one_by_one(key: &[u8; 32], blocks: &[[u8; 16]; 8]) -> [[u8; 16]; 8] {
+    let schedule = KeySchedule::new(key);
+    let mut texts: [[u8; 16]; 8] = [[0; 16]; 8];
+    for place in 0..8usize {
+        texts[place] = schedule.encrypt(blocks[place]);
+    }
+    texts
+}
+
+/// A key of two blocks.
+fn joined(first: [u8; 16], second: [u8; 16]) -> [u8; 32] {
+    let mut key: [u8; 32] = [0; 32];
+    key[..16].copy_from_slice(&first);
+    key[16..].copy_from_slice(&second);
+    key
+}
+
+fn are_after_fifty(blocks: &[[u8; 16]; 8]) -> bool {
+    let mut same = true;
+    for place in 0..8usize {
+        same = same && blocks[place] == AFTER_FIFTY[place].to_be_bytes();
+    }
+    same
 }
 
 /// Eight blocks under fifty keys, each made of what came before.
 #[test]
 fn follows_the_plain_cipher(rt: HostRuntime) {
     let mut key = COUNTING;
-    let mut blocks = [[0; 16]; 8];
-    for place in 0..8u8 {
-        for byte in 0..16u8 {
-            blocks[place as usize][byte as usize] = 16 * place + byte;
-        }
-    }
+    let mut blocks = counting_blocks();
     for turn in 0..50 {
-        let schedule = KeySchedule::new(&key);
         let texts = KeyPlanes::from_key(&key).encrypt_blocks(&blocks);
-        for place in 0..8usize {
-            assert!(rt;
-                texts[place] == schedule.encrypt(blocks[place]),
-                "turn {turn}, at {place}"
-            );
-        }
-        key[..16].copy_from_slice(&texts[2]);
-        key[16..].copy_from_slice(&texts[5]);
+        assert!(rt; texts == one_by_one(&key, &blocks), "turn {turn}");
+        key = joined(texts[2], texts[5]);
         blocks = texts;
     }
-    for place in 0..8 {
-        assert!(rt;
-            blocks[place] == AFTER_FIFTY[place].to_be_bytes(),
-            "at {place}"
-        );
-    }
+    assert!(rt; are_after_fifty(&blocks));
 }

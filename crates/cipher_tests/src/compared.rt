@@ -1,9 +1,8 @@
 // Sealing and opening, compared with the plain bodies at many lengths.
+use crate::case::{Case, unmet};
 use crate::plain::plain_seal;
 use aes_block::KeySchedule;
-use aes_gcm::{gcm_seal, gcm_unseal};
 use std::alloc::Global;
-use std::process::Abort;
 use std::test::Fail;
 
 pub(crate) const KEY: [u8; 32] = *b"thirty-two bytes that are no key";
@@ -20,32 +19,35 @@ pub(crate) fn some_bytes(alloc: Global, len: usize) -> Result<Vec<u8>, Fail> {
     Ok(bytes)
 }
 
-/// Seals and opens a plaintext of this length in both ways.
-fn compare(rt: &impl Abort, alloc: Global, len: usize) -> Result<(), Fail> {
-    let keys = KeySchedule::new(&KEY);
-    let plain = some_bytes(alloc, len)?;
-    let iv = some_bytes(alloc, 12 + len % 5)?;
-    let extra = some_bytes(alloc, len % 40)?;
-    assert!(rt; !iv.is_empty());
-    let mut text = Vec::new(alloc);
-    let tag = gcm_seal(&keys, &iv, &extra, &plain, &mut text)?;
-    let (expected, mut other) = plain_seal(alloc, &keys, &iv, &extra, &plain)?;
-    assert!(rt;
-        text.as_slice() == expected.as_slice(),
-        "the ciphertext of {len} bytes"
-    );
-    assert!(rt; tag == other, "the tag over {len} bytes");
-    let opened = gcm_unseal(alloc, &keys, &iv, &extra, &expected, &other)?;
-    assert!(rt; opened == Some(plain), "opening {len} bytes");
-    other[len % 16] ^= 1;
-    assert!(rt; gcm_unseal(alloc, &keys, &iv, &extra, &expected, &other)?.is_none());
-    Ok(())
+/// A plaintext of this length, to be sealed.
+fn unsealed(alloc: Global, len: usize) -> Result<Case, Fail> {
+    Ok(Case {
+        key: KEY,
+        iv: some_bytes(alloc, 12 + len % 5)?,
+        extra: some_bytes(alloc, len % 40)?,
+        plain: some_bytes(alloc, len)?,
+        text: Vec::new(alloc),
+        tag: [0; 16],
+    })
+}
+
+/// The same with what the plain bodies seal it to.
+fn plainly_sealed(alloc: Global, len: usize) -> Result<Case, Fail> {
+    let mut case = unsealed(alloc, len)?;
+    let keys = KeySchedule::new(&case.key);
+    (case.text, case.tag) = plain_seal(alloc, &keys, &case.iv, &case.extra, &case.plain)?;
+    Ok(case)
+}
+
+/// A plaintext of this length is sealed and opened as by the plain bodies: what isn't so, or nothing.
+fn difference(alloc: Global, len: usize) -> Result<&'static str, Fail> {
+    unmet(alloc, &plainly_sealed(alloc, len)?, len % 16)
 }
 
 #[test]
 fn equals_the_plain_bodies_at_short_lengths(rt: HostRuntime) -> Result<(), Fail> {
     for len in 0..301 {
-        compare(&rt, rt.alloc(), len)?;
+        assert_eq!(rt; difference(rt.alloc(), len)?, "", "{len} bytes");
     }
     Ok(())
 }
@@ -53,7 +55,7 @@ fn equals_the_plain_bodies_at_short_lengths(rt: HostRuntime) -> Result<(), Fail>
 #[test]
 fn equals_the_plain_bodies_at_long_lengths(rt: HostRuntime) -> Result<(), Fail> {
     for len in [4096, 16336, 65541] {
-        compare(&rt, rt.alloc(), len)?;
+        assert_eq!(rt; difference(rt.alloc(), len)?, "", "{len} bytes");
     }
     Ok(())
 }

@@ -7,6 +7,8 @@ mod bits;
 #[cfg(test)]
 mod block;
 #[cfg(test)]
+mod case;
+#[cfg(test)]
 mod compared;
 #[cfg(test)]
 mod fronts;
@@ -16,3 +18,7 @@ mod gcm;
 mod plain;
 #[cfg(test)]
 mod plain_steps;
+#[cfg(test)]
+mod sealer;
+#[cfg(test)]
+mod vectors;
