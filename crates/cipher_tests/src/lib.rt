@@ -1,5 +1,5 @@
-//! AES-256 on one block and on eight, and its Galois/Counter Mode, against outside vectors and plain bodies.
-//! There is nothing here but tests.
+//! AES-256 on one block and on eight, its Galois/Counter Mode, and scrypt with its parts, against outside vectors and plain
+//! bodies. There is nothing here but tests.
 #![tactic(auto)]
 
 #[cfg(test)]
@@ -14,6 +14,8 @@ mod compared;
 mod fronts;
 #[cfg(test)]
 mod gcm;
+#[cfg(test)]
+mod key_derivation;
 #[cfg(test)]
 mod plain;
 #[cfg(test)]
