@@ -1,16 +1,32 @@
-//! Folders in memory that are imported into the tree in memory, and exported from it. There is nothing here but tests, and what answers them.
+//! Copies of folders and of single files: over a tree in memory, and as whole runs over a block directory and a local record
+//! in memory. There is nothing here but tests.
 #![tactic(auto)]
 
 #[cfg(test)]
-mod exports;
+mod file_gets;
 #[cfg(test)]
-mod imports;
+mod file_puts;
+#[cfg(test)]
+mod files;
+#[cfg(test)]
+mod folders;
+#[cfg(test)]
 mod plain_asker;
 #[cfg(test)]
-mod samples;
-
-pub use plain_asker::PlainAsker;
-
-// Handed on to crates above, which needn't list them.
-pub use plain_tree;
-pub use tree_copy::copy_rules;
+mod run_exports;
+#[cfg(test)]
+mod run_files;
+#[cfg(test)]
+mod run_imports;
+#[cfg(test)]
+mod run_stops;
+#[cfg(test)]
+mod run_words;
+#[cfg(test)]
+mod runs;
+#[cfg(test)]
+mod tree_exports;
+#[cfg(test)]
+mod tree_imports;
+#[cfg(test)]
+mod trees;

@@ -1,5 +1,5 @@
 // Trees that folders are copied into and out of, and how copies end.
-use crate::PlainAsker;
+use crate::plain_asker::PlainAsker;
 use folder_samples::host_folder::Folder;
 use folder_samples::path;
 use fs_model::{FsError, Moment};
@@ -56,4 +56,9 @@ pub fn is_refused(ended: Result<Totals, CopyFail>, depth: usize, error: FsError)
         Err(CopyFail::Refused(at, found)) => at.names().len() == depth && found == error,
         _ => false,
     }
+}
+
+/// Whether a call on the folder failed.
+pub fn is_fault(ended: Result<Totals, CopyFail>) -> bool {
+    matches!(&ended, Err(CopyFail::Host))
 }

@@ -1,9 +1,8 @@
-// Imports, and what later runs see of them.
-
-use crate::rows::{play_anew_beside, play_beside_failing, play_beside_small};
+// Runs of `import`, and what later ones see of them.
+use crate::runs::{play_anew_beside, play_beside_failing, play_beside_small};
 use folder_samples::{Row, makes};
+use memory_folder::MemoryFolder;
 use std::test::Fail;
-use test_systems::memory_folder::MemoryFolder;
 
 const ONCE: &str = "> import|/
 pw

@@ -1,13 +1,19 @@
 // Copies that end before all is copied, since a command isn't answered.
-
-use crate::rows::{imported, play_beside_small, small_folder};
-use std::alloc::Global;
+use crate::folders::small_folder;
+use crate::runs::{imported, play_beside_small};
+use std::alloc::{AllocError, Global};
 use std::test::Fail;
-use test_systems::{System, block, failing_saves, new_system, play_beside, store};
+use test_systems::{System, block, failing_saves, new_system, play, play_beside, store};
 
 /// The runs of the rows over this file system, beside the small folder.
 fn play_over(alloc: Global, system: &mut System, rows: &str) -> Result<(), Fail> {
     play_beside(alloc, system, &mut small_folder(alloc)?, rows)
+}
+
+/// Makes the second call on the block directory fail, the first on a block.
+fn fail_second(alloc: Global, system: &mut System) -> Result<(), AllocError> {
+    system.vault.fail_calls(Vec::from_elem(alloc, 2, 1)?);
+    Ok(())
 }
 
 const STOPPED: &str = "> import|/
@@ -16,13 +22,32 @@ pw
 fault directory
 ";
 
-/// The second call on the block directory, the first on a block, fails.
+const STILL_EMPTY: &str = "> ls|/
+pw
+=
+list 0
+";
+
 #[test]
 fn a_fault_of_the_block_directory_is_told(rt: HostRuntime) -> Result<(), Fail> {
     let mut system = new_system(rt.alloc())?;
-    let fails = Vec::from_elem(rt.alloc(), 2, 1)?;
-    system.vault.fail_calls(fails);
-    play_over(rt.alloc(), &mut system, STOPPED)
+    fail_second(rt.alloc(), &mut system)?;
+    play_over(rt.alloc(), &mut system, STOPPED)?;
+    system.vault.fail_calls(Vec::new(rt.alloc()));
+    play(rt.alloc(), &mut system, STILL_EMPTY)
+}
+
+const EXPORT_STOPPED: &str = "> export|/
+pw
+= copy stopped
+fault directory
+";
+
+#[test]
+fn so_is_one_in_an_export(rt: HostRuntime) -> Result<(), Fail> {
+    let mut system = new_system(rt.alloc())?;
+    fail_second(rt.alloc(), &mut system)?;
+    play(rt.alloc(), &mut system, EXPORT_STOPPED)
 }
 
 const MISSING: &str = "> import|/
@@ -43,6 +68,29 @@ fn a_violation_is_told_and_kept(rt: HostRuntime) -> Result<(), Fail> {
     let mut system = imported(rt.alloc())?;
     store(rt.alloc(), &mut system, block(1), None)?;
     play_over(rt.alloc(), &mut system, MISSING)
+}
+
+/// Makes the second call on the block directory find nothing.
+fn lose_second(alloc: Global, system: &mut System) -> Result<(), AllocError> {
+    system.vault.replace(vec![in alloc; (2, None)]?);
+    Ok(())
+}
+
+const MISSING_IN_AN_EXPORT: &str = "> export|/
+pw
+= integrity violation
+violation missing
+> import|/
+pw
+= integrity violation
+";
+
+/// A block that isn't given is as one that is gone.
+#[test]
+fn so_is_one_of_an_export(rt: HostRuntime) -> Result<(), Fail> {
+    let mut system = new_system(rt.alloc())?;
+    lose_second(rt.alloc(), &mut system)?;
+    play(rt.alloc(), &mut system, MISSING_IN_AN_EXPORT)
 }
 
 const UNSAVED: &str = "> import|/

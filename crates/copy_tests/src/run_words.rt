@@ -1,8 +1,7 @@
 // What a copy is asked by.
-
-use crate::rows::play_anew_beside;
+use crate::runs::play_anew_beside;
+use memory_folder::MemoryFolder;
 use std::test::Fail;
-use test_systems::memory_folder::MemoryFolder;
 
 /// A copy takes one path, as a line of a script says it.
 const OTHER_WORDS: &str = "> import

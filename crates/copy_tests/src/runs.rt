@@ -1,24 +1,13 @@
 // Runs beside a folder, as rows of text.
-
-use folder_samples::fills_small;
+use crate::folders::{failing_small_folder, small_folder};
+use memory_folder::MemoryFolder;
 use std::alloc::Global;
 use std::test::Fail;
-use test_systems::memory_folder::MemoryFolder;
 use test_systems::{System, new_system, play_beside};
 
 /// The runs of the rows over a new file system.
 pub fn play_anew_beside(alloc: Global, folder: &mut MemoryFolder, rows: &str) -> Result<(), Fail> {
     play_beside(alloc, &mut new_system(alloc)?, folder, rows)
-}
-
-/// The directory `d` with the file `f` of `ab` and the link `l` to it.
-pub fn small_folder(alloc: Global) -> Result<MemoryFolder, Fail> {
-    let mut folder = MemoryFolder::new(alloc);
-    if fills_small(alloc, &mut folder) {
-        Ok(folder)
-    } else {
-        Err(Fail::from("rows"))
-    }
 }
 
 /// The runs of the rows over a new file system, beside the small folder.
@@ -28,9 +17,7 @@ pub fn play_beside_small(alloc: Global, rows: &str) -> Result<(), Fail> {
 
 /// The same where the call of this number on the folder fails.
 pub fn play_beside_failing(alloc: Global, call: u64, rows: &str) -> Result<(), Fail> {
-    let mut folder = small_folder(alloc)?;
-    folder.fail_calls(Vec::from_elem(alloc, call, 1)?);
-    play_anew_beside(alloc, &mut folder, rows)
+    play_anew_beside(alloc, &mut failing_small_folder(alloc, call)?, rows)
 }
 
 const IMPORT: &str = "> import|/

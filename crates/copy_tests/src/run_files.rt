@@ -1,5 +1,4 @@
-// One file that is put and got.
-
+// Runs of `put` and `get`.
 use std::alloc::Global;
 use std::test::Fail;
 use test_systems::{Status, System, new_system, plain, play, take};

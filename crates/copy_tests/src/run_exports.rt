@@ -1,10 +1,10 @@
-// Exports, and what they make.
-
-use crate::rows::{play_anew_beside, play_imported_beside};
+// Runs of `export`, and what they make.
+use crate::folders::failing_folder;
+use crate::runs::{play_anew_beside, play_imported_beside};
 use folder_samples::{has_rows, holds, leads};
+use memory_folder::MemoryFolder;
 use std::alloc::Global;
 use std::test::Fail;
-use test_systems::memory_folder::MemoryFolder;
 
 const ONCE: &str = "> export|/
 pw
@@ -75,8 +75,7 @@ pw
 
 /// What an export makes where the call of this number on the folder fails.
 fn export_failing(alloc: Global, call: u64) -> Result<MemoryFolder, Fail> {
-    let mut folder = MemoryFolder::new(alloc);
-    folder.fail_calls(Vec::from_elem(alloc, call, 1)?);
+    let mut folder = failing_folder(alloc, call)?;
     play_imported_beside(alloc, &mut folder, FAULT)?;
     Ok(folder)
 }
@@ -88,11 +87,15 @@ fn a_folder_that_fails_first_is_a_fault(rt: HostRuntime) -> Result<(), Fail> {
     Ok(())
 }
 
+/// Whether the folder has the empty directory `d` alone.
+fn has_directory(alloc: Global, folder: &mut MemoryFolder) -> bool {
+    has_rows(alloc, folder, &[], &["dd"]) && has_rows(alloc, folder, &["d"], &[])
+}
+
 /// The third call makes the file.
 #[test]
 fn one_that_fails_later_has_a_part(rt: HostRuntime) -> Result<(), Fail> {
     let mut folder = export_failing(rt.alloc(), 3)?;
-    assert!(rt; has_rows(rt.alloc(), &mut folder, &[], &["dd"]));
-    assert!(rt; has_rows(rt.alloc(), &mut folder, &["d"], &[]));
+    assert!(rt; has_directory(rt.alloc(), &mut folder));
     Ok(())
 }
