@@ -3,19 +3,22 @@
 use std::alloc::Global;
 use std::test::Fail;
 
-/// The bytes of `COUNTED`.
-pub fn counted(alloc: Global) -> Result<Vec<u8>, Fail> {
-    Ok(hex::decode(alloc, COUNTED)?)
+/// The bytes of a configuration's file: `counted`, `by-hand`, or one whose contents can't be used.
+pub fn configuration(alloc: Global, word: &str) -> Result<Vec<u8>, Fail> {
+    let digits = digits(word).ok_or("no such configuration")?;
+    Ok(hex::decode(alloc, digits)?)
 }
 
-/// The bytes of `BY_HAND`.
-pub fn by_hand(alloc: Global) -> Result<Vec<u8>, Fail> {
-    Ok(hex::decode(alloc, BY_HAND)?)
-}
-
-/// The digits of the files whose contents can't be used.
-pub fn unusable() -> [&'static str; 3] {
-    [OTHER_CIPHER, OTHER_JSON, SMALL_BLOCKS]
+/// The digits of a configuration's file.
+fn digits(word: &str) -> Option<&'static str> {
+    match word {
+        "counted" => Some(COUNTED),
+        "by-hand" => Some(BY_HAND),
+        "other-cipher" => Some(OTHER_CIPHER),
+        "other-json" => Some(OTHER_JSON),
+        "small-blocks" => Some(SMALL_BLOCKS),
+        _ => None,
+    }
 }
 
 /// Made by `create --blocksize 128 --scrypt-n 16` of the random 32-bit words 0, 1, 2 and so on, low byte first.

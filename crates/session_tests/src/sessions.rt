@@ -1,32 +1,10 @@
 // Sessions over a directory that keeps its promises.
 
-use crate::left::leaves;
-use crate::trials::{CHILDREN, TOUCHED, play_over_nothing};
-use std::alloc::{AllocError, Global};
+use crate::stories::tell;
 use std::test::Fail;
-use test_systems::memory_outside::MemoryKeeper;
-use test_systems::{
-    Run, Status, System, count_blocks, new_system, nothing, plain, play, play_anew, script, take,
-};
 
-/// A session at the beginning of this second, which has to write this text.
-fn is_answered_at(
-    alloc: Global,
-    system: &mut System,
-    secs: u64,
-    lines: &str,
-    text: &str,
-) -> Result<(), Fail> {
-    let input = script(alloc, lines)?;
-    let case = Run {
-        secs,
-        nanos: 0,
-        ..plain(&["shell"], &input)
-    };
-    take(alloc, system, &case, text, Status::Done)
-}
-
-const WRITTEN: &str = "> shell
+const LINES: &str = "# a second session sees what the first wrote
+> shell
 pw
 mkfile /f
 write /f 5 6162
@@ -37,22 +15,16 @@ ok
 ok
 data 00000000006162
 data -
-";
-
-#[test]
-fn a_second_session_sees_what_the_first_wrote(rt: HostRuntime) -> Result<(), Fail> {
-    let mut system = new_system(rt.alloc())?;
-    play(rt.alloc(), &mut system, WRITTEN)?;
-    is_answered_at(
-        rt.alloc(),
-        &mut system,
-        200,
-        "write /f 9 -\nstat /f\n",
-        "ok\nstat f 644 0 0 7 100.000000005 100.000000005 100.000000005\n",
-    )
-}
-
-const MOVES: &str = "> shell
+> !at 200
+> shell
+pw
+write /f 9 -
+stat /f
+=
+ok
+stat f 644 0 0 7 100.000000005 100.000000005 100.000000005
+# moves follow the order of errors
+> shell
 pw
 mkdir /a
 mkdir /b
@@ -86,170 +58,97 @@ list 3
 d b
 d c
 f f
+# directories take the moment at which their children change
+> !at 9
+> shell
+pw
+mkdir /a
+mkdir /b
+mkfile /a/f
+utime /a 1.000000000 2.000000000
+utime /b 1.000000000 2.000000000
+mv /a/f /b/f
+stat /a
+stat /b
+utime /b 1.000000000 2.000000000
+mv /b/f /b/f
+write /b/f 0 61
+stat /b
+mkdir /b/d
+mkfile /b/d/g
+utime /b/d 3.000000000 4.000000000
+utime /b 1.000000000 2.000000000
+rm /b/d/g
+stat /b/d
+stat /b
+rmdir /b/d
+stat /b
+stat /
+=
+ok
+ok
+ok
+ok
+ok
+ok
+stat d 755 0 0 0 1.000000000 9.000000000 9.000000000
+stat d 755 0 0 0 1.000000000 9.000000000 9.000000000
+ok
+ok
+ok
+stat d 755 0 0 0 1.000000000 2.000000000 9.000000000
+ok
+ok
+ok
+ok
+ok
+stat d 755 0 0 0 3.000000000 9.000000000 9.000000000
+stat d 755 0 0 0 1.000000000 2.000000000 9.000000000
+ok
+stat d 755 0 0 0 1.000000000 9.000000000 9.000000000
+stat d 755 0 0 0 0.000000000 0.000000000 0.000000000
+# pieces of one byte make no difference
+> !piece 1
+> shell
+pw
+mkdir /a
+
+ls /=
+ok
+error bad-line
+list 1
+d a
+# pieces of two bytes make no difference
+> !piece 2
+> shell
+pw
+mkdir /a
+
+ls /=
+ok
+error bad-line
+list 1
+d a
+# pieces of seven bytes make no difference
+> !piece 7
+> shell
+pw
+mkdir /a
+
+ls /=
+ok
+error bad-line
+list 1
+d a
 ";
 
 #[test]
-fn moves_follow_the_order_of_errors(rt: HostRuntime) -> Result<(), Fail> {
-    play_anew(rt.alloc(), MOVES)
+fn lines_are_answered(rt: HostRuntime) -> Result<(), Fail> {
+    tell(&rt, "", LINES)
 }
 
-#[test]
-fn directories_take_the_moment_at_which_their_children_change(rt: HostRuntime) -> Result<(), Fail> {
-    let mut system = new_system(rt.alloc())?;
-    is_answered_at(rt.alloc(), &mut system, 9, CHILDREN, TOUCHED)
-}
-
-/// A session whose input comes in pieces of so many bytes, and which has to write this text.
-fn is_answered_in(
-    alloc: Global,
-    system: &mut System,
-    piece: usize,
-    lines: &str,
-    text: &str,
-) -> Result<(), Fail> {
-    let input = script(alloc, lines)?;
-    let case = Run {
-        piece,
-        ..plain(&["shell"], &input)
-    };
-    take(alloc, system, &case, text, Status::Done)
-}
-
-/// The same of one session over a new file system.
-fn is_answered_anew_in(alloc: Global, piece: usize) -> Result<(), Fail> {
-    is_answered_in(
-        alloc,
-        &mut new_system(alloc)?,
-        piece,
-        "mkdir /a\n\nls /",
-        "ok\nerror bad-line\nlist 1\nd a\n",
-    )
-}
-
-#[test]
-fn pieces_of_the_input_make_no_difference(rt: HostRuntime) -> Result<(), Fail> {
-    for piece in [1, 2, 7] {
-        is_answered_anew_in(rt.alloc(), piece)?;
-    }
-    Ok(())
-}
-
-#[test]
-fn sizes_have_limits(rt: HostRuntime) -> Result<(), Fail> {
-    play_anew(
-        rt.alloc(),
-        "> shell
-pw
-mkfile /f
-truncate /f 67108864
-truncate /f 134217729
-=
-ok
-ok
-error too-large
-",
-    )
-}
-
-/// The lines of the first of three sessions, which write a file of 100,000 bytes.
-pub fn lines_of_the_first(alloc: Global) -> Result<String, AllocError> {
-    let mut letters = String::new(alloc);
-    for _ in 0..25_000 {
-        letters.push_str("41")?;
-    }
-    format!(in alloc;
-        "mkdir /docs\nmkdir /docs/old\nmkfile /docs/report\nwrite /docs/report 0 {letters}\nwrite /docs/report 25000 {letters}\nwrite /docs/report 50000 {letters}\nwrite /docs/report 75000 {letters}\n"
-    )
-}
-
-/// What they are answered.
-pub const FIRST: &str = "ok\nok\nok\nok\nok\nok\nok\n";
-
-/// The lines of the two later ones, and their texts.
-const LATER: [(&str, &str); 2] = [
-    (
-        "mv /docs/report /docs/old/report\nread /docs/old/report 99990 100\n",
-        "ok\ndata 41414141414141414141\n",
-    ),
-    (
-        "mkfile /docs/tmp\nrm /docs/tmp\nls /docs\n",
-        "ok\nok\nlist 1\nd old\n",
-    ),
-];
-
-/// A session with long lines, which has to write this text.
-pub fn is_answered_long(
-    alloc: Global,
-    system: &mut System,
-    lines: &str,
-    text: &str,
-) -> Result<(), Fail> {
-    is_answered_in(alloc, system, 4096, lines, text)
-}
-
-/// The same, and eleven block files are there then.
-fn leaves_eleven(alloc: Global, system: &mut System, lines: &str, text: &str) -> Result<(), Fail> {
-    is_answered_long(alloc, system, lines, text)?;
-    if count_blocks(&system.vault) == 11 {
-        Ok(())
-    } else {
-        Err(Fail::new(format_args!("not eleven block files after {text:?}")))
-    }
-}
-
-/// The three sessions one after another.
-fn are_sessions(alloc: Global, first: &str) -> Result<(), Fail> {
-    let mut system = new_system(alloc)?;
-    leaves_eleven(alloc, &mut system, first, FIRST)?;
-    for (lines, text) in LATER {
-        leaves_eleven(alloc, &mut system, lines, text)?;
-    }
-    Ok(())
-}
-
-/// Their lines as one trial.
-fn are_a_trial(alloc: Global, first: &str) -> Result<(), Fail> {
-    let [(second, second_text), (third, third_text)] = LATER;
-    let lines = format!(in alloc; "{first}{second}{third}")?;
-    let text = format!(in alloc; "{FIRST}{second_text}{third_text}")?;
-    let case = Run {
-        piece: 4096,
-        ..plain(&["trial"], &lines)
-    };
-    take(alloc, &mut nothing(alloc), &case, &text, Status::Done)
-}
-
-#[test]
-fn sessions_join_to_one_trial(rt: HostRuntime) -> Result<(), Fail> {
-    let first = lines_of_the_first(rt.alloc())?;
-    are_sessions(rt.alloc(), &first)?;
-    are_a_trial(rt.alloc(), &first)
-}
-
-#[test]
-fn generated_commands_are_summed_as_in_a_trial(rt: HostRuntime) -> Result<(), Fail> {
-    play_anew(
-        rt.alloc(),
-        "> generate|2000
-pw
-=
-lines 2000 replies 1766 errors 234 other 0 read 119375
-",
-    )?;
-    play_over_nothing(
-        rt.alloc(),
-        "> trial|generate|2000
-=
-lines 2000 replies 1766 errors 234 other 0 read 119375
-",
-    )
-}
-
-#[test]
-fn another_password_takes_the_place_of_the_old_one(rt: HostRuntime) -> Result<(), Fail> {
-    play_anew(
-        rt.alloc(),
-        "> passwd
+const FORMS: &str = "# another password takes the place of the old one
+> passwd
 pw
 q
 =
@@ -261,16 +160,8 @@ pw
 q
 =
 list 0
-",
-    )
-}
-
-// What follows the password line isn't read as a script.
-#[test]
-fn words_of_a_command_are_a_session_of_one_line(rt: HostRuntime) -> Result<(), Fail> {
-    play_anew(
-        rt.alloc(),
-        "> mkdir|/a
+# words of a command are a session of one line, and what follows the password line is not read as a script
+> mkdir|/a
 pw
 mkdir /b
 =
@@ -306,11 +197,8 @@ pw
 mkdir /b
 =
 ok
-",
-    )
-}
-
-const FEW: &str = "> shell
+# few words and no lines
+> shell
 pw
 =
 > info
@@ -334,49 +222,155 @@ pw
 > ls /
 pw
 = usage
+> (no words)
+pw
+= usage
 ";
 
 #[test]
-fn few_words_and_no_lines(rt: HostRuntime) -> Result<(), Fail> {
-    let mut system = new_system(rt.alloc())?;
-    play(rt.alloc(), &mut system, FEW)?;
-    take(
-        rt.alloc(),
-        &mut system,
-        &plain(&[], "pw"),
-        "",
-        Status::Usage,
-    )
+fn words_are_answered(rt: HostRuntime) -> Result<(), Fail> {
+    tell(&rt, "", FORMS)
 }
 
-/// A session over this record, which isn't opened, and leaves the directory uncalled.
-fn is_refused(alloc: Global, kept: Option<Vec<u8>>, status: Status) -> Result<(), Fail> {
-    let mut system = nothing(alloc);
-    if kept.is_some() {
-        system.keeper = MemoryKeeper::new(alloc, kept, Vec::new(alloc));
-    }
-    let case = plain(&["shell"], "pw\nmkdir /a\n");
-    leaves(alloc, &mut system, &case, status, 0)
+const LONG: &str = "# sizes have limits
+> shell
+pw
+mkfile /f
+truncate /f 67108864
+truncate /f 134217729
+=
+ok
+ok
+error too-large
+# three sessions with a file of 100,000 bytes
+> !piece 4096
+> shell
+pw
+mkdir /docs
+mkdir /docs/old
+mkfile /docs/report
+write /docs/report 0 {41*25000}
+write /docs/report 25000 {41*25000}
+write /docs/report 50000 {41*25000}
+write /docs/report 75000 {41*25000}
+=
+ok
+ok
+ok
+ok
+ok
+ok
+ok
+> !count blocks 11
+> shell
+pw
+mv /docs/report /docs/old/report
+read /docs/old/report 99990 100
+=
+ok
+data 41414141414141414141
+> !count blocks 11
+> shell
+pw
+mkfile /docs/tmp
+rm /docs/tmp
+ls /docs
+=
+ok
+ok
+list 1
+d old
+> !count blocks 11
+# their lines as one trial
+> !nothing
+> !piece 4096
+> trial
+mkdir /docs
+mkdir /docs/old
+mkfile /docs/report
+write /docs/report 0 {41*25000}
+write /docs/report 25000 {41*25000}
+write /docs/report 50000 {41*25000}
+write /docs/report 75000 {41*25000}
+mv /docs/report /docs/old/report
+read /docs/old/report 99990 100
+mkfile /docs/tmp
+rm /docs/tmp
+ls /docs
+=
+ok
+ok
+ok
+ok
+ok
+ok
+ok
+ok
+data 41414141414141414141
+ok
+ok
+list 1
+d old
+";
+
+#[test]
+fn long_lines_and_large_files_are_answered(rt: HostRuntime) -> Result<(), Fail> {
+    tell(&rt, "", LONG)
 }
 
-/// The password line is longer than it may be.
-fn is_too_long(alloc: Global, system: &mut System) -> Result<(), Fail> {
-    let letters = vec![in alloc; b'a'; 1_048_577]?;
-    let case = Run {
-        input: &letters,
-        piece: 65_536,
-        ..plain(&["shell"], "")
-    };
-    leaves(alloc, system, &case, Status::LongPassword, 0)
+const GENERATED: &str = "# over a new file system
+> generate|2000
+pw
+=
+lines 2000 replies 1766 errors 234 other 0 read 119375
+# as a trial
+> !nothing
+> trial|generate|2000
+=
+lines 2000 replies 1766 errors 234 other 0 read 119375
+";
+
+#[test]
+fn generated_commands_are_summed_as_in_a_trial(rt: HostRuntime) -> Result<(), Fail> {
+    tell(&rt, "", GENERATED)
 }
+
+const UNOPENED: &str = "# no record
+> !nothing
+> !note
+> shell
+pw
+mkdir /a
+= no local state
+> !kept
+> !count calls 0
+# a record that is none
+> !nothing
+> !record abc
+> !note
+> shell
+pw
+mkdir /a
+= local state is damaged
+> !kept
+> !count calls 0
+# another password, and one that is too long
+> !note
+> shell
+px
+mkdir /a
+= configuration does not open
+> !kept
+> !count calls 1
+> !note
+> !piece 65536
+> shell
+{a*1048577}= password too long
+> !kept
+> !count calls 0
+";
 
 #[test]
 fn what_is_not_opened_stays_as_it_is(rt: HostRuntime) -> Result<(), Fail> {
-    let alloc = rt.alloc();
-    is_refused(alloc, None, Status::NoState)?;
-    is_refused(alloc, Some(b"abc".to_vec(alloc)?), Status::BadState)?;
-    let mut system = new_system(alloc)?;
-    let wrong = plain(&["shell"], "px\nmkdir /a\n");
-    leaves(alloc, &mut system, &wrong, Status::ConfigLocked, 1)?;
-    is_too_long(alloc, &mut system)
+    tell(&rt, "", UNOPENED)
 }

@@ -1,0 +1,152 @@
+// What a check of a whole file system prints and ends with, and what it leaves to later runs.
+
+use crate::stories::tell;
+use std::test::Fail;
+
+/// One directory, and a strange file beside its own.
+const WITH_STRANGER: &str = "> shell
+pw
+mkdir /a
+=
+ok
+> !stranger x y
+";
+
+const CHECKS: &str = "# a check names owners and strangers
+> check
+pw
+=
+check yes 2
+block 00000000000000000000000000000001 /
+block 76B8E0ADA0F13D90405D6AE55386BD28 /a
+stranger x\\x20y
+> check
+pw
+=
+check yes 2
+block 00000000000000000000000000000001 /
+block 76B8E0ADA0F13D90405D6AE55386BD28 /a
+stranger x\\x20y
+> shell
+pw
+ls /
+=
+list 1
+d a
+# a missing block condemns the record, and later runs are refused without a call
+> !note
+> !file first gone
+> check
+pw
+= integrity violation
+violation missing
+> !put-back 0
+> !note
+> check
+pw
+= integrity violation
+> shell
+pw
+ls /
+= integrity violation
+> ls|/
+pw
+= integrity violation
+> generate|8
+pw
+= integrity violation
+> !count calls 0
+# an older block condemns the record
+> !note
+> shell
+pw
+mkdir /b
+=
+ok
+> !file root 0 root
+> check
+pw
+= integrity violation
+violation old-version 3 2
+> shell
+pw
+ls /
+= integrity violation
+# a check takes no more words and needs the password
+> check|/
+pw
+= usage
+> check
+px
+= configuration does not open
+> !write-fails 1
+> check
+pw
+= output fault
+> !plain
+> check
+pw
+=
+check yes 2
+block 00000000000000000000000000000001 /
+block 76B8E0ADA0F13D90405D6AE55386BD28 /a
+stranger x\\x20y
+";
+
+#[test]
+fn a_check_names_owners_and_condemns_the_record(rt: HostRuntime) -> Result<(), Fail> {
+    tell(&rt, WITH_STRANGER, CHECKS)
+}
+
+const SURVEYS: &str = "# a survey names each refused block and marks nothing
+> check|--all
+pw
+=
+check yes 2
+block 00000000000000000000000000000001 /
+block 76B8E0ADA0F13D90405D6AE55386BD28 /a
+stranger x\\x20y
+> !note
+> !file first gone
+> check|--all
+pw
+= integrity violation
+violation missing
+block 76B8E0ADA0F13D90405D6AE55386BD28 /a violation missing
+refused 1
+> check|--all
+pw
+= integrity violation
+violation missing
+block 76B8E0ADA0F13D90405D6AE55386BD28 /a violation missing
+refused 1
+> !put-back 0
+> check
+pw
+=
+check yes 2
+block 00000000000000000000000000000001 /
+block 76B8E0ADA0F13D90405D6AE55386BD28 /a
+stranger x\\x20y
+# what is below a refused directory has no path
+> !note
+> shell
+pw
+mkdir /b
+=
+ok
+> !file root 0 root
+> !file first gone
+> check|--all
+pw
+= integrity violation
+violation old-version 3 2
+block 00000000000000000000000000000001 / violation old-version 3 2
+block 76B8E0ADA0F13D90405D6AE55386BD28 ? violation missing
+refused 2
+";
+
+#[test]
+fn a_survey_names_each_refused_block_and_marks_nothing(rt: HostRuntime) -> Result<(), Fail> {
+    tell(&rt, WITH_STRANGER, SURVEYS)
+}
