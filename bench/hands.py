@@ -3,8 +3,8 @@
 
 Nothing is proved here: each case gets a tree of its own, in which the sources are a line each, `rt` is a script that
 writes down how it was called and puts the program where the real one puts it, and the program is a script that prints
-its words and each line of its input. The cases of `hands_real.py`, `hands_copies.py`, `hands_checks.py` and
-`hands_removing.py`, and some of `hands_files.py`, take the program that was built in this checkout. Words of this script name the cases to run; without
+its words and each line of its input. The cases of `hands_real.py`, `hands_copies.py`, `hands_checks.py`,
+`hands_removing.py` and `hands_updating.py`, and some of `hands_files.py`, take the program that was built in this checkout. Words of this script name the cases to run; without
 any, all are run."""
 import os
 import subprocess
@@ -18,11 +18,12 @@ import hands_files
 import hands_real
 import hands_removing
 import hands_terminal
+import hands_updating
 import hands_words
 from hands_tree import BUILT, Tree
 
 CASES = hands_build.CASES + hands_words.CASES + hands_terminal.CASES + hands_files.CASES
-REAL = hands_real.CASES + hands_copies.CASES + hands_files.REAL + hands_checks.CASES + hands_removing.CASES
+REAL = hands_real.CASES + hands_copies.CASES + hands_files.REAL + hands_checks.CASES + hands_removing.CASES + hands_updating.CASES
 
 
 def passes(case):

@@ -28,7 +28,8 @@ def help_is_answered_at_once(tree):
 def words_are_looked_at_first(tree):
     wrong = ("b", "b s", "b s lss", "b s ls\\ /", "b s info more", "b s check /", "b s shell x", "b s passwd x", "b s migrate x", "b s generate",
              "b s ls", "b s ls / x", "b s read", "b s mv /a", "b s sync x", "b s rm '/a f'", "b s rm ''", "b s write /a 0 61 62",
-             "b s rm -r", "b s rm -r /", "b s rm -r f",
+             "b s update", "b s update f", "b s update f x",
+             "b s update --delete f /", "b s update f / --all", "b s import f / --delete", "b s rm -r", "b s rm -r /", "b s rm -r f",
              "b s rm -r /a /b", "b s rm -r /a/", "b s generate x", "b s generate 12345678", "b s generate 1 2", "b s trial x", "b s trial generate", "b s create --size 1", "b s create 128",
              "b s import", "b s import f", "b s import f x", "b s import '' /", "b s export f / more", "b s export / f",
              "b s import f / --quiet --quiet", "b s import f / --quick", "b s import f --quiet /", "b s export f / --leave-out",

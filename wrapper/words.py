@@ -6,12 +6,13 @@ from telling import USAGE, Refused, line_forms
 
 # The words of each line, as help shows them.
 LINES = line_forms()
-COPIES = ("import", "export")
+COPIES = ("import", "export", "update")
 FILES = ("put", "get")
 COMMANDS = ("create", "info", "passwd", "migrate", "check", "shell", *COPIES, *FILES, "generate", "trial", *LINES)
 CREATE_OPTIONS = ("--blocksize", "--scrypt-n", "--scrypt-r", "--scrypt-p")
 # Words that may stand behind those of a command.
-LATE_OPTIONS = {"import": ("--quiet", "--leave-out"), "export": ("--quiet",), "check": ("--quiet",)}
+LATE_OPTIONS = {"import": ("--quiet", "--leave-out"), "export": ("--quiet",), "update": ("--quiet", "--leave-out", "--delete"),
+                "check": ("--quiet",)}
 # The word behind `rm` by which all below a path goes with it.
 WHOLE = "-r"
 PASSWORD_OPTIONS = ("--password-file", "--password-command")
@@ -62,12 +63,31 @@ class Call:
         return self.takes_lines() or self.takes_bytes() or self.command == "passwd"
 
     def removes_tree(self):
-        """Whether it removes what is at a path with all below it, by the lines of a session."""
+        """Whether it removes what is at a path with all below it."""
         return self.command == "rm" and self.rest[1:2] == [WHOLE]
+
+    def updates(self):
+        """Whether it brings a directory to what a folder of this machine has."""
+        return self.command == "update"
+
+    def asks_lines(self):
+        """Whether the wrapper asks the lines of a session for it."""
+        return self.removes_tree() or self.updates()
+
+    def is_quiet(self):
+        return "--quiet" in self.rest[3:]
+
+    def leaves_out(self):
+        """Whether what is no file, folder or link is left out."""
+        return "--leave-out" in self.rest[3:]
+
+    def deletes(self):
+        """Whether an update removes what the folder doesn't have."""
+        return "--delete" in self.rest[3:]
 
     def words(self):
         """The words of the program."""
-        return [self.blocks, self.state, *(["shell"] if self.removes_tree() else self.rest)]
+        return [self.blocks, self.state, *(["shell"] if self.asks_lines() else self.rest)]
 
     def check_folders(self):
         """Refuses folders that would give the record to whoever holds the blocks, and a record that isn't there."""

@@ -1,0 +1,121 @@
+"""A session whose lines the wrapper asks itself, for what no line does: `rm -r`, `update`."""
+import os
+import signal
+import time
+
+import telling
+from lines import OUTPUT_FAULT, Session
+from running import end, shown, wait
+
+# How an answer begins that refuses a line.
+ERROR = b"error "
+OK = [b"ok"]
+
+
+class Stopped(Exception):
+    """Nothing more is asked: an answer wasn't as wanted, a signal came, or the program ended."""
+
+
+class Asker(Session):
+    """The program, which answers lines that are asked here. What it answered stands in the way until it is whole."""
+
+    # The texts and statuses where an error ended it, and where another answer did.
+    refused = stopped = ("", 0)
+
+    def __init__(self, program, call, first):
+        self.came, self.met, self.fault = b"", None, None
+        self.shown_at, self.is_shown = time.monotonic(), False
+        super().__init__(program, call, first)
+
+    def show(self, came):
+        self.came += came
+
+    def ask(self, line):
+        """The lines that answer this one."""
+        if self.ended or self.signals:
+            raise Stopped
+        self.came = b""
+        self.answer(line + b"\n")
+        answer = self.came.split(b"\n")[:-1]
+        if not answer or self.signals:
+            raise Stopped
+        return answer
+
+    def stop(self):
+        raise Stopped
+
+    def fail(self, answer, path):
+        """Ends it with this answer, which was met at this path."""
+        self.met = answer, path
+        self.stop()
+
+    def have(self, line, path):
+        """Asks a line that has to be answered `ok`."""
+        answer = self.ask(line)
+        if answer != OK:
+            self.fail(answer[0], path)
+
+    def rows(self, path):
+        """The rows of a directory, each its kind and its name as it is printed; the answer where it is none."""
+        answer = self.ask(b"ls " + path)
+        if not answer[0].startswith(b"list "):
+            return answer[0]
+        return [tuple(it.split(b" ", 1)) for it in answer[1:]]
+
+    def tell(self, text):
+        """Says each second how far it is, on one line of a terminal that is written over."""
+        if os.isatty(2) and not self.call.is_quiet() and time.monotonic() > self.shown_at + 1:
+            self.shown_at, self.is_shown = time.monotonic(), True
+            shown(f"\rcryfs: {text}\x1b[K".encode())
+
+    def hide(self):
+        """Clears that line."""
+        if self.is_shown:
+            shown(b"\r\x1b[K")
+            self.is_shown = False
+
+    def finish(self, work):
+        """Does the work, closes the session, which keeps what was done, prints what came of it, and ends with its status."""
+        done = None
+        try:
+            done = work()
+        except Stopped:
+            pass
+        self.hide()
+        if self.signals:
+            telling.say("closing; a second interrupt stops it at once")
+        os.close(self.input)
+        self.drain()
+        status = wait(self.process)
+        if self.signals and status in (0, -signal.SIGTERM):
+            status = -self.signals[0]
+        if self.fault:
+            status = self.told(b"", status, *self.fault)
+        elif self.met:
+            answer, path = self.met
+            status = self.told(answer + b" " + path, status, *(self.refused if answer.startswith(ERROR) else self.stopped))
+        elif status == 0 and done is not None:
+            status = self.told(*done)
+        end(status, self.errors, self.call)
+
+    def told(self, line, status=0, text=None, own=0):
+        """Prints the line in which it ended, where there is one; the status, which is its own where the program's tells nothing."""
+        line = line and line + b"\n"
+        try:
+            while line:
+                line = line[os.write(self.output, line):]
+        except OSError:
+            text, own = "output fault", OUTPUT_FAULT
+        if status == 0 and text:
+            os.write(self.errors, f"cryfs: {text}\n".encode())
+        return status or own
+
+
+def joined(path, name):
+    """The path of a row in a directory."""
+    return (b"" if path == b"/" else path) + b"/" + name
+
+
+def written(word):
+    """A path as a word of a line: a newline in it would end the line."""
+    return os.fsencode(word).replace(b"\n", b"\\x0a")
