@@ -1,0 +1,119 @@
+#!/usr/bin/env python3
+"""Stops `./cryfs update` at random times on real folders, and looks at what is there afterwards.
+
+Over and over on one file system: a folder gets other rows, and an update with --delete is killed, with the program, at any
+time within what a whole one takes. Then each row is that of before or that of the folder, and what both have is there. A
+whole update follows, after which the tree is the folder's. Every run prints its seed; the folders of a run that failed are
+kept.
+"""
+import argparse
+import os
+import random
+import shutil
+import signal
+import subprocess
+import sys
+import tempfile
+import threading
+import time
+
+from kill_copies import random_rows
+from rows import make_rows, rows_of
+
+TOP = os.path.dirname(os.path.dirname(os.path.abspath(__file__)))
+BESIDE = ".sergunad-update"
+# The statuses of a run that met another one, which is still ending.
+USED = (6, 7)
+
+
+class Lost(Exception):
+    """Something isn't as it has to be."""
+
+
+class Updates:
+    """One file system, its folders, and the seconds that a whole update takes."""
+
+    def __init__(self, top, chance, block_size):
+        self.top, self.chance, self.block_size, self.usual, self.rows = top, chance, block_size, None, {}
+        self.counts = {"kills": 0, "in part": 0, "whole": 0, "not at all": 0}
+        self.call("create", "--scrypt-n", "16", "--blocksize", str(block_size))
+
+    def call(self, *words, stop_after=None):
+        """The status and the seconds of a run, which is killed with all that it began."""
+        started = time.monotonic()
+        process = subprocess.Popen([f"{TOP}/cryfs", "b", "s", *words], cwd=self.top, stdin=subprocess.PIPE, stdout=subprocess.PIPE,
+                                   stderr=subprocess.PIPE, start_new_session=True)
+        stop = threading.Timer(3600 if stop_after is None else stop_after, os.killpg, (process.pid, signal.SIGKILL))
+        stop.start()
+        _, errors = process.communicate(b"pw\n")
+        stop.cancel()
+        if process.returncode not in (0, -signal.SIGKILL, *USED):
+            raise Lost(f"{words[0]} ended with {process.returncode}: {errors.decode()}")
+        return process.returncode, time.monotonic() - started
+
+    def whole(self, *words):
+        """The same of a run that has to end well, once what was killed has ended."""
+        for _ in range(600):
+            if self.call(*words)[0] == 0:
+                return
+            time.sleep(0.1)
+        raise Lost(f"{words[0]} never ended well")
+
+    def found(self):
+        """What an export makes of the tree, without what an update writes beside."""
+        shutil.rmtree(f"{self.top}/found", ignore_errors=True)
+        os.mkdir(f"{self.top}/found")
+        self.whole("export", "found", "/")
+        return rows_of(f"{self.top}/found")
+
+    def judge(self, found, after, status):
+        """Counts how far a killed update came, where nothing is lost."""
+        left = {path: row for path, row in found.items() if path.split("/")[0] != BESIDE}
+        odd = [it for it, row in left.items() if not any(it in rows and rows[it] == row for rows in (self.rows, after))]
+        gone = [it for it, row in self.rows.items() if it in after and after[it] == row and it not in left]
+        if odd or gone or status == 0 and found != after:
+            raise Lost(f"after status {status}: neither old nor new {odd}, gone {gone}")
+        if status:
+            self.counts["kills"] += 1
+            self.counts["whole" if left == after else "not at all" if left == self.rows else "in part"] += 1
+
+    def update(self):
+        shutil.rmtree(f"{self.top}/given", ignore_errors=True)
+        after = random_rows(self.chance, self.block_size)
+        # (some rows stay, so that what both have can be looked for)
+        after |= {path: row for path, row in self.rows.items() if path in after and self.chance.randrange(2)}
+        after = {path: row for path, row in after.items() if not os.path.dirname(path) or after.get(os.path.dirname(path), "") is None}
+        make_rows(f"{self.top}/given", after)
+        stop_after = None if self.usual is None else self.chance.uniform(0, 1.1 * self.usual)
+        status, seconds = self.call("update", "given", "/", "--delete", stop_after=stop_after)
+        if status == 0:
+            self.usual = seconds if self.usual is None else 0.5 * (self.usual + seconds)
+        self.judge(self.found(), after, status)
+        self.whole("update", "given", "/", "--delete")
+        if self.found() != after:
+            raise Lost("the tree isn't the folder's after a whole update")
+        self.rows = after
+
+
+def main():
+    parser = argparse.ArgumentParser(description=__doc__, formatter_class=argparse.RawDescriptionHelpFormatter)
+    parser.add_argument("--kills", type=int, default=100)
+    parser.add_argument("--seed", type=int, default=random.SystemRandom().randrange(1 << 32))
+    parser.add_argument("--block-size", type=int, default=16384)
+    arguments = parser.parse_args()
+    print(f"seed {arguments.seed}", flush=True)
+    top = tempfile.mkdtemp(prefix="kill-updates-")
+    updates = Updates(top, random.Random(arguments.seed), arguments.block_size)
+    try:
+        while updates.counts["kills"] < arguments.kills:
+            updates.update()
+    except Lost as why:
+        print(f"LOST in {top}: {why}; {updates.counts}")
+        return 1
+    shutil.rmtree(top)
+    print(f"nothing lost: {updates.counts}")
+    return 0
+
+
+if __name__ == "__main__":
+    sys.exit(main())
