@@ -73,7 +73,7 @@ def a_row_of_another_kind_goes_where_that_is_asked(tree):
     tree.write("f/a", "3")
     os.remove(f"{tree.top}/f/c")
     os.symlink("a", f"{tree.top}/f/c")
-    same(updated(tree, "f", "/"), (13, "error exists /a\n", "cryfs: update refused\n"), "without")
+    same(updated(tree, "f", "/"), (13, "error exists /a\n", "cryfs: copy refused\n"), "without")
     same(updated(tree, "f", "/", "--delete"), (0, "updated 0 1 1 1\nremoved 2 1 0\n", ""), "with it")
     is_as(tree, "f", "g")
 
@@ -83,7 +83,7 @@ def what_cannot_be_updated_is_told(tree):
     fault = "cryfs: host folder fault\n"
     same(updated(tree, "none", "/"), (12, "", "cryfs: none: No such file or directory\n" + fault), "no folder")
     tree.write("f/a", "1")
-    same(updated(tree, "f", "/none"), (13, "error no-entry /none\n", "cryfs: update refused\n"), "no directory")
+    same(updated(tree, "f", "/none"), (13, "error no-entry /none\n", "cryfs: copy refused\n"), "no directory")
     same(updated(tree, "f/a", "/"), (12, "", "cryfs: f/a: Not a directory\n" + fault), "no folder, but a file")
     for folder in ("b", "s"):
         same(updated(tree, folder, "/"), (12, "", f"cryfs: {folder}: it is in BLOCKS or STATE\n" + fault), folder)
@@ -154,7 +154,7 @@ def a_terminal_sees_how_far_an_update_is(tree):
     terminal = asks(tree, "update", "f", "/none")
     status, seen = terminal.end()
     same(status, 13, seen)
-    has(seen, "error no-entry /none\r\n", "cryfs: update refused\r\ncryfs: `update` met a row of another kind")
+    has(seen, "error no-entry /none\r\n", "cryfs: copy refused\r\ncryfs: `update` met a row of another kind")
 
 
 CASES = [what_is_new_or_changed_is_written, an_import_is_gone_on_with, a_row_of_another_kind_goes_where_that_is_asked, what_cannot_be_updated_is_told,

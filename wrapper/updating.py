@@ -32,7 +32,7 @@ def moment(nanos):
 class Update(Removal):
     """A session that writes what differs, and counts what it made and the bytes of files that it wrote."""
 
-    refused, stopped = ("update refused", 13), ("update stopped", 14)
+    refused, stopped = ("copy refused", 13), ("copy stopped", 14)
 
     def __init__(self, program, call, first):
         self.made, self.bytes = dict.fromkeys(KINDS, 0), 0
