@@ -1,11 +1,11 @@
 #!/usr/bin/env python3
-"""What flushing costs: bench_folders puts blocks of 16,384 bytes into a folder and saves a record, as it is and with flushes that
-do nothing.
+"""What flushing costs: the built program puts a file of so many blocks into a new file system, and writes over it, as it is and
+with flushes that do nothing.
 
-Build the program first: (cd crates/bench_folders && rt run -- blocks 3). Needs a C compiler, for the library that takes the
-place of the system's flush. The words are how many blocks, the folder in which the blocks are put (default: this one), and
-further builds of the program to compare with.
-Prints the median of three interleaved runs of each: into an empty folder, and over the files that are there.
+Needs a C compiler, for the library that takes the place of the system's flush. The words are how many blocks of 16,384 bytes,
+the folder in which the file systems are made (default: this one), and further builds of the program to compare with.
+Prints the median of three interleaved runs of each, less opening: the file made, and half a mebibyte after another of it
+written over.
 """
 import os
 import shutil
@@ -15,9 +15,11 @@ import tempfile
 import time
 from statistics import median
 
-TOP = os.path.dirname(os.path.dirname(os.path.abspath(__file__)))
-PROGRAM = os.path.join(TOP, "crates", "bench_folders", "out", "bench_folders")
+from runs import BUILT
+
 NO_FLUSH = "int fsync(int fd) { return 0; }\nint fdatasync(int fd) { return 0; }\n"
+# The bytes of a file that a block holds, and those that a line writes.
+PAYLOAD, PIECE = 16298, 1 << 19
 
 
 def build_no_flush(folder):
@@ -28,17 +30,21 @@ def build_no_flush(folder):
     return library
 
 
-def seconds(program, folder, count, environment):
+def seconds(program, folder, words, given, environment):
     start = time.monotonic()
-    subprocess.run([program, folder, str(count)], check=True, stdout=subprocess.DEVNULL, env=environment)
+    subprocess.run([program, f"{folder}/b", f"{folder}/s", *words], input=b"pw\n" + given, check=True, stdout=subprocess.DEVNULL,
+                   env=environment)
     return time.monotonic() - start
 
 
 def new_and_replaced(within, program, count, environment):
-    """The time into an empty folder, and the time over the same blocks."""
-    folder = tempfile.mkdtemp(dir=within)
+    """The time that a file of so many blocks takes, and that of its bytes written over, each less that of an empty session."""
+    folder, size = tempfile.mkdtemp(dir=within), count * PAYLOAD
+    seconds(program, folder, ["create"], b"", environment)
     os.sync()
-    times = [seconds(program, folder, count, environment) for _ in range(2)]
+    over = b"".join(b"write /f %d %s\n" % (at, b"61" * min(PIECE, size - at)) for at in range(0, size, PIECE))
+    idle = seconds(program, folder, ["shell"], b"", environment)
+    times = [seconds(program, folder, *it, environment) - idle for it in ((["put", "/f"], b"x" * size), (["shell"], over))]
     shutil.rmtree(folder)
     return times
 
@@ -48,7 +54,7 @@ def main():
     within = sys.argv[2] if len(sys.argv) > 2 else "."
     with tempfile.TemporaryDirectory() as scratch:
         library = build_no_flush(scratch)
-        kinds = {"flushed": (PROGRAM, {}), "not flushed": (PROGRAM, {"LD_PRELOAD": library})}
+        kinds = {"flushed": (BUILT, {}), "not flushed": (BUILT, {"LD_PRELOAD": library})}
         kinds.update((f"by {other}", (other, {})) for other in sys.argv[3:])
         times = {kind: [] for kind in kinds}
         for _ in range(3):
@@ -59,4 +65,5 @@ def main():
         print(f"{count} blocks {kind}: new {new:.2f} s, replaced {replaced:.2f} s")
 
 
-main()
+if __name__ == "__main__":
+    main()
