@@ -206,9 +206,12 @@ def examples_of_the_page_work(tree):
     for name, size in (("photo.jpg", 300000), ("film", 1200001)):
         with open(f"{tree.top}/photos/{name}", "wb") as file:
             file.write(os.urandom(size))
-    same(len(examples), 2, "how many examples")
-    wanted = "imported 0 2 0 1500001\nlist 2\nf film\nf photo.jpg\nexported 0 2 0 1500001\n"
+    same(len(examples), 3, "how many examples")
+    wanted = "imported 0 2 0 1500001\nexported 0 2 0 1500001\n"
     same(tree.run("-ec", examples[0], script="/bin/sh"), (0, wanted, ""), examples[0])
+    tree.write("photos/text", "abc")
+    wanted = "updated 0 1 0 3\nupdated 0 0 0 0\nremoved 0 0 0\n"
+    same(tree.run("-ec", examples.pop(1), script="/bin/sh"), (0, wanted, ""), "an update")
     shutil.copy2(f"{tree.top}/photos/photo.jpg", f"{tree.top}/photo.jpg")
     status, out, errors = tree.run("-ec", examples[1], script="/bin/sh")
     same((status, out, errors), (0, "imported 0 1 0 300000\n", ""), examples[1])
@@ -219,9 +222,8 @@ def examples_of_the_page_work(tree):
     for path in ("/2026", "/2026/empty", "/2026/empty/a\\x20b", "/20261"):
         line(tree, "mkdir", path)
     same(tree.run("--password-file=pw", "b", "s", "import", "photos", "/2026")[0], 0, "a tree to remove")
-    status, out, errors = tree.run("-c", scripts[1], script="/bin/sh")
-    same((status, set(out.splitlines()), errors), (0, {"ok", "error is-directory", "error no-entry"}, ""), scripts[1])
-    same(line(tree, "ls", "/"), "list 4\nd 20261\nf film\nf photo\nf photo.jpg\n", "what is left")
+    same(tree.run("--password-file=pw", "b", "s", "rm", "-r", "/2026"), (0, "removed 3 3 0\n", ""), "a tree that is removed")
+    same(line(tree, "ls", "/"), "list 5\nd 20261\nf film\nf photo\nf photo.jpg\nf text\n", "what is left")
 
 
 def what_needs_no_lost_block_comes_out(tree):
