@@ -1,11 +1,6 @@
 //! Stores of sealed blocks over a directory and a local record in memory: what a client sees after rollbacks, faults and
-//! stops, and what its own loads and changes over such a store answer. Beside the tests, one function over any directory
-//! and any keeper: what was put and synced is loaded by the store that is opened anew.
+//! stops, and what its own loads and changes over such a store answer. There is nothing here but tests.
 #![tactic(auto)]
-
-mod reopening;
-
-pub use reopening::{Reopened, Seal, put_reopen_load};
 
 #[cfg(test)]
 mod changes;

@@ -5,7 +5,6 @@ ghost use Rattle.outside.specs.View.{list_of};
 ghost use Rattle.integrity_store.specs.sealed_store.Stores.{IsIntact, block_size_of, cipher_of};
 ghost use Rattle.block_cache.specs.store_api.Holdings.{IsFew};
 
-use crate::reopening::is_no_block;
 use aes_gcm::Aes256Gcm;
 use block_cache::store_api::Blocks;
 use block_id::BlockId;
@@ -15,8 +14,8 @@ use integrity_store::redo_vault::RedoVault;
 use integrity_store::sealed_store::SealedStore;
 use memory_outside::{MemoryKeeper, MemoryVault};
 use outside::{Change, FileName, Pending, Vault};
+use reopening::{Seal, reopen};
 use seal_api::Sealer;
-use session_saver::local_state::decode;
 use std::alloc::Global;
 use std::test::Fail;
 
@@ -69,13 +68,12 @@ pub(crate) fn open(alloc: Global, vault: MemoryVault, record: &[u8]) -> Result<S
     ensures intact { IfOk result (λ store. ⟦<Store as Blocks>⟧.meanings.intact store) }
     ensures few { IfOk result (λ store. IsFew (⟦<Store as Blocks>⟧.holdings.used store)) }
 {
-    let Ok((state, list)) = decode(alloc, record) else {
-        return Err("no record".into());
+    let seal = Seal {
+        cipher: Aes256Gcm,
+        key: [3; 32],
+        block_size: 128,
     };
-    if !is_no_block(&list) {
-        return Err("a block as the configuration".into());
-    }
-    Ok(IntegrityStore::new(sealed_over(alloc, vault, list), state))
+    reopen(alloc, vault, seal, record)
 }
 
 impl Site {

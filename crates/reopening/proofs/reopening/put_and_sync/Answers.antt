@@ -1,8 +1,8 @@
 use Rattle.std.proofs.Common.{◌∙◌, ap, subst, Some}
 use Rattle.std.specs.FinMap as fin
-use Rattle.block_cache.specs.store_api.Content.{over}
-use Rattle.block_cache.specs.store_api.Durables.{Identity}
-use Rattle.tower_tests.proofs.reopening.put_and_sync.Goals as goal
+use Rattle.session_saver.specs.store_api.Content.{over}
+use Rattle.session_saver.specs.store_api.Durables.{Identity}
+use Rattle.reopening.proofs.reopening.put_and_sync.Goals as goal
 
 pub returns-in-Ok-clause-kept : goal.returns-in-Ok-clause-kept
 returns-in-Ok-clause-kept g c =

@@ -3,14 +3,14 @@ use Rattle.std.specs.FinMap as fin
 use Rattle.block_id.specs.declared.sizes.TheConstants.{MIN_BLOCK, MAX_BLOCK}
 use Rattle.outside.specs.Honest.{count_told}
 use Rattle.outside.specs.View.{bytes_of}
-use Rattle.block_cache.specs.store_api.Content.{over}
-use Rattle.block_cache.specs.store_api.Durables.{Identity}
+use Rattle.session_saver.specs.store_api.Content.{over}
+use Rattle.session_saver.specs.store_api.Durables.{Identity}
 use Rattle.integrity_store.specs.held_blocks.Forgeries.{forged}
 use Rattle.integrity_store.specs.held_blocks.Held.{wanted}
 use Rattle.integrity_store.specs.held_blocks.Standing.{identity_of, Stands}
 use Rattle.integrity_store.specs.Views.{held_by}
-use Rattle.tower_tests.proofs.Anew.{put_there}
-use Rattle.tower_tests.proofs.reopening.put_reopen_load.Goals as goal
+use Rattle.reopening.proofs.Anew.{put_there}
+use Rattle.reopening.proofs.reopening.put_reopen_load.Goals as goal
 
 same_bytes : (x y : List ℕ) → Some x ≡ Some y → x ≡ y
 same_bytes x y e = cc

@@ -7,8 +7,8 @@ use Rattle.integrity_store.specs.held_blocks.Standing.{identity_of}
 use Rattle.integrity_store.specs.held_blocks.Views.{held_of}
 use Rattle.integrity_store.specs.Views.{held_by}
 use Rattle.integrity_store.specs.WaitingLaws.{in_order}
-use Rattle.tower_tests.proofs.Anew.{reopened}
-use Rattle.tower_tests.proofs.reopening.reopen.Goals as goal
+use Rattle.reopening.proofs.Anew.{reopened}
+use Rattle.reopening.proofs.reopening.reopen.Goals as goal
 
 pub new-requires : goal.new-requires
 new-requires g c = in_order (plain_state c.in-Ok.state) (list_of c.in-Ok.list.items) c.in-Ok.ensures.is_record.has

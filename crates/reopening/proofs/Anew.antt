@@ -8,8 +8,8 @@ use Rattle.std.specs.Cmp.Lexicographic.{nat_list_cmp_total}
 use Rattle.outside.specs.Trace.{Call}
 use Rattle.session_saver.specs.local_state.Record.{IsRecord}
 use Rattle.session_saver.proofs.local_state_lemmas.Records.{one_reading}
-use Rattle.block_cache.specs.store_api.Content.{Content, same_id, or_else, over}
-use Rattle.block_cache.specs.store_api.Durables.{Identity}
+use Rattle.session_saver.specs.store_api.Content.{Content, same_id, or_else, over}
+use Rattle.session_saver.specs.store_api.Durables.{Identity}
 use Rattle.integrity_store.specs.held_blocks.Held.{Held}
 use Rattle.integrity_store.specs.held_blocks.Standing.{identity_of, Stands}
 

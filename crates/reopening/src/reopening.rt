@@ -6,15 +6,14 @@ ghost use Rattle.outside.specs.Changes.{change_at};
 ghost use Rattle.outside.specs.Honest.{count_told};
 ghost use Rattle.outside.specs.Trace.{config};
 ghost use Rattle.outside.specs.View.{bytes_of, list_of};
-ghost use Rattle.block_cache.specs.store_api.Content.{Content, SameContent, over};
-ghost use Rattle.block_cache.specs.store_api.Durables.{Identity};
-ghost use Rattle.block_cache.specs.store_api.Holdings.{IsFew};
+ghost use Rattle.session_saver.specs.store_api.Content.{Content, SameContent, over};
+ghost use Rattle.session_saver.specs.store_api.Durables.{Identity};
+ghost use Rattle.session_saver.specs.store_api.Holdings.{IsFew};
 ghost use Rattle.session_saver.specs.Saving.{RepresentsContent};
 ghost use Rattle.integrity_store.specs.held_blocks.Forgeries.{forged};
 ghost use Rattle.integrity_store.specs.held_blocks.Standing.{Stands};
 ghost use Rattle.integrity_store.specs.held_blocks.Stores.{IsNoBlock};
 
-use block_cache::store_api::{Blocks, Durable};
 use block_id::BlockId;
 use integrity_store::IntegrityStore;
 use integrity_store::redo_vault::RedoVault;
@@ -24,6 +23,7 @@ use rand_core::Rng;
 use seal_api::Sealer;
 use session_saver::Saver;
 use session_saver::local_state::decode;
+use session_saver::store_api::{Blocks, Durable};
 use std::alloc::Global;
 use std::test::Fail;
 use store_session::put_one;
@@ -73,10 +73,10 @@ fn put_and_sync<S: Durable + Drop, K: Keeper + Drop, R: Rng>(
 }
 
 /// Whether what waits as the configuration begins as no block's file.
-pub(crate) fn is_no_block(list: &[Pending]) -> bool
+fn is_no_block(list: &[Pending]) -> bool
     ensures { result ≡ true → IsNoBlock (change_at config (list_of list.now)) }
 {
-    match memory_outside::pending_list::lookup(list, &FileName::Config) {
+    match pending_list::lookup(list, &FileName::Config) {
         Some(Change::Bytes(bytes)) => !bytes.starts_with(b"cryfs;block;0\0"),
         Some(Change::Removal) => true,
         None => true,
@@ -92,7 +92,7 @@ pub struct Seal<C> {
 }
 
 /// The store that a record is of.
-fn reopen<V: Vault + Drop, C: Sealer + Drop>(
+pub fn reopen<V: Vault + Drop, C: Sealer + Drop>(
     alloc: Global,
     vault: V,
     seal: Seal<C>,
@@ -101,6 +101,7 @@ fn reopen<V: Vault + Drop, C: Sealer + Drop>(
     requires size { (MIN_BLOCK ≤ seal.block_size) × (seal.block_size ≤ MAX_BLOCK) }
     requires iv { C.iv_size seal.cipher ≡ 16 }
     ensures intact { IfOk result (λ store. ⟦<IntegrityStore<V, C> as Blocks>⟧.meanings.intact store) }
+    ensures few { IfOk result (λ store. IsFew (⟦<IntegrityStore<V, C> as Blocks>⟧.holdings.used store)) }
     ensures forgeries { IfOk result (λ store. ⟦<IntegrityStore<V, C> as Blocks>⟧.meanings.forgeries store
         ≡ count_told (forged (C.opens seal.cipher seal.key) seal.block_size) (V.trace vault)) }
     ensures opened { IfOk result (λ store. (identity : Identity) (content : Content) → identity.opens ≡ C.opens seal.cipher seal.key → identity.size ≡ seal.block_size
