@@ -3,14 +3,20 @@
 #![tactic(auto)]
 
 #[cfg(test)]
+mod attacks;
+#[cfg(test)]
 mod changes;
 #[cfg(test)]
-mod each_store;
+mod orders;
 #[cfg(test)]
 mod promises;
 #[cfg(test)]
+mod sessions;
+#[cfg(test)]
 mod site;
 #[cfg(test)]
-mod tests;
+mod stories;
 #[cfg(test)]
 mod tower;
+#[cfg(test)]
+mod words;

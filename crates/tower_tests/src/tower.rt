@@ -2,10 +2,12 @@
 ghost use Rattle.std.specs.Prelude.{◌≡◌, IfOk};
 ghost use Rattle.block_cache.specs.store_api.Holdings.{IsFew};
 
-use crate::site::{Store, open};
+use aes_gcm::Aes256Gcm;
 use block_cache::BlockCache;
 use block_cache::store_api::Durable;
 use memory_outside::MemoryVault;
+use reopening::integrity_store::IntegrityStore;
+use reopening::{Seal, reopen};
 use std::alloc::Global;
 use std::test::Fail;
 
@@ -20,9 +22,19 @@ pub(crate) trait Tower: Durable {
     fn into_vault(self) -> MemoryVault;
 }
 
+/// The store of sealed blocks alone.
+pub(crate) type Store = IntegrityStore<MemoryVault, Aes256Gcm>;
+
+/// Blocks of 128 bytes.
+pub(crate) const SEAL: Seal<Aes256Gcm> = Seal {
+    cipher: Aes256Gcm,
+    key: [3; 32],
+    block_size: 128,
+};
+
 impl Tower for Store {
     fn open(alloc: Global, vault: MemoryVault, record: &[u8]) -> Result<Store, Fail> {
-        open(alloc, vault, record)
+        reopen(alloc, vault, SEAL, record)
     }
 
     fn into_vault(self) -> MemoryVault {
@@ -38,7 +50,8 @@ const CACHED_BLOCKS: usize = 2;
 
 impl Tower for Cached {
     fn open(alloc: Global, vault: MemoryVault, record: &[u8]) -> Result<Cached, Fail> {
-        match BlockCache::new(alloc, open(alloc, vault, record)?, CACHED_BLOCKS) {
+        let store: Store = Tower::open(alloc, vault, record)?;
+        match BlockCache::new(alloc, store, CACHED_BLOCKS) {
             Ok(store) => Ok(store),
             Err((_, below)) => {
                 drop(below);

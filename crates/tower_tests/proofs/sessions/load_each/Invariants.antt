@@ -1,0 +1,5 @@
+use Rattle.block_cache.specs.store_api.Txs.{intact_in}
+use Rattle.tower_tests.proofs.sessions.load_each.Given as goal
+
+abbrev pub invariant-loop-word : goal.invariant-loop-word
+invariant-loop-word g l = intact_in g.S.Blocks.meanings g.S.Blocks.holdings l.tx
