@@ -5,75 +5,32 @@ use block_id::BlockId;
 use std::alloc::Global;
 use std::test::Fail;
 
-/// What becomes of a block, or of what its node holds: its bytes or children.
-#[derive(Clone, Copy)]
-pub enum Damage {
-    /// It is taken away.
-    Gone,
-    /// It is there once more, under a new id.
-    Twin,
-    /// Its text comes under a new id, and it is a node over that alone.
-    Wrapped,
-    /// Its text and that of the next block are exchanged.
-    Exchanged,
-    /// Its text is that of the next block.
-    Copied,
-    /// Its node says another depth.
-    Deeper,
-    /// The last byte or child goes.
-    Cut,
-    /// A byte or child more.
-    Grown,
-    /// Only the first byte or child stays.
-    Lone,
-    /// Nothing stays.
-    Emptied,
-    /// The last sixteen bytes are the root's id.
-    ToRoot,
-    /// The last sixteen bytes are the id of no block.
-    ToNone,
-    /// The last sixteen bytes are the block's own id.
-    ToSelf,
-    /// The first byte or child comes last.
-    Turned,
-    /// The second byte or child is the first.
-    Repeated,
-    /// All bytes are zeros.
-    Zeroed,
-}
+/// What becomes of a block, or of what its node holds, its bytes or children:
+///
+/// - `gone`: it is taken away
+/// - `twin`: it is there once more, under a new id
+/// - `wrapped`: its text comes under a new id, and it is a node over that alone
+/// - `exchanged`: its text and that of the next block are exchanged
+/// - `copied`: its text is that of the next block
+/// - `deeper`: its node says another depth
+/// - `cut`: the last byte or child goes
+/// - `grown`: a byte or child more
+/// - `lone`: only the first byte or child stays
+/// - `emptied`: nothing stays
+/// - `to-root`: the last sixteen bytes are the root's id
+/// - `to-none`: the last sixteen bytes are the id of no block
+/// - `to-self`: the last sixteen bytes are the block's own id
+/// - `turned`: the first byte or child comes last
+/// - `repeated`: the second byte or child is the first
+/// - `zeroed`: all bytes are zeros
+pub const DAMAGES: &str =
+    "gone twin wrapped exchanged copied deeper cut grown lone emptied to-root to-none to-self turned repeated zeroed";
 
-pub const DAMAGES: [Damage; 16] = [
-    Damage::Gone,
-    Damage::Twin,
-    Damage::Wrapped,
-    Damage::Exchanged,
-    Damage::Copied,
-    Damage::Deeper,
-    Damage::Cut,
-    Damage::Grown,
-    Damage::Lone,
-    Damage::Emptied,
-    Damage::ToRoot,
-    Damage::ToNone,
-    Damage::ToSelf,
-    Damage::Turned,
-    Damage::Repeated,
-    Damage::Zeroed,
-];
-
-/// The bytes with this id in place of the last sixteen.
+/// Puts an id in place of the last sixteen bytes.
 fn set_last(bytes: &mut Vec<u8>, id: BlockId) -> Result<(), Fail> {
     bytes.truncate(bytes.len().saturating_sub(16));
     bytes.extend_from_slice(&id.0)?;
     Ok(())
-}
-
-/// The bytes with the first so many behind the others.
-fn turned(alloc: Global, bytes: &[u8], unit: usize) -> Result<Vec<u8>, Fail> {
-    let (first, rest) = bytes.split_at(unit.min(bytes.len()));
-    let mut after = rest.to_vec(alloc)?;
-    after.extend_from_slice(first)?;
-    Ok(after)
 }
 
 /// The bytes with the first so many in place of the next.
@@ -86,35 +43,37 @@ fn repeated(alloc: Global, bytes: &[u8], unit: usize) -> Result<Vec<u8>, Fail> {
     Ok(after)
 }
 
-/// What a node holds after a damage of that alone, each byte or child of which takes `unit` bytes.
-fn holding(
+/// Damages what the node of this id holds, each byte or child of which takes so many bytes.
+fn damage_contents(
     alloc: Global,
     disk: &mut Disk,
-    damage: Damage,
+    damage: &str,
     id: BlockId,
     unit: usize,
-    mut bytes: Vec<u8>,
-) -> Result<Vec<u8>, Fail> {
+    bytes: &mut Vec<u8>,
+) -> Result<(), Fail> {
     let len = bytes.len();
     match damage {
-        Damage::Cut => bytes.truncate(len.saturating_sub(unit)),
-        Damage::Grown => bytes.resize(len.saturating_add(unit), 7)?,
-        Damage::Lone => bytes.truncate(unit),
-        Damage::ToRoot => set_last(&mut bytes, disk.root)?,
-        Damage::ToNone => set_last(&mut bytes, disk.draw())?,
-        Damage::ToSelf => set_last(&mut bytes, id)?,
-        Damage::Turned => return turned(alloc, &bytes, unit),
-        Damage::Repeated => return repeated(alloc, &bytes, unit),
-        Damage::Zeroed => return Ok(vec![in alloc; 0; len]?),
-        _ => bytes.clear(),
+        "deeper" => {}
+        "cut" => bytes.truncate(len.saturating_sub(unit)),
+        "grown" => bytes.resize(len.saturating_add(unit), 7)?,
+        "lone" => bytes.truncate(unit),
+        "emptied" => bytes.clear(),
+        "to-root" => set_last(bytes, disk.root)?,
+        "to-none" => set_last(bytes, disk.draw())?,
+        "to-self" => set_last(bytes, id)?,
+        "turned" => bytes.rotate_left(unit.min(len)),
+        "repeated" => *bytes = repeated(alloc, bytes, unit)?,
+        "zeroed" => bytes.fill(0),
+        _ => return Err(Fail::from("this is no damage")),
     }
-    Ok(bytes)
+    Ok(())
 }
 
 /// Sets a block's text.
 fn set(disk: &mut Disk, at: usize, text: Vec<u8>) {
     if let Some(block) = disk.blocks.get_mut(at) {
-        block.text = text;
+        block.1 = text;
     }
 }
 
@@ -128,67 +87,79 @@ fn take_out(disk: &mut Disk, at: usize) {
 /// A block's id, and its text apart.
 fn block_at(alloc: Global, disk: &Disk, at: usize) -> Result<(BlockId, Vec<u8>), Fail> {
     match disk.blocks.get(at) {
-        Some(block) => Ok((block.id, block.text.as_slice().to_vec(alloc)?)),
+        Some((id, text)) => Ok((*id, text.as_slice().to_vec(alloc)?)),
         None => Err(Fail::from("a block")),
     }
 }
 
-/// A block's text comes under a new id. The id.
-fn put_twin(alloc: Global, disk: &mut Disk, at: usize) -> Result<BlockId, Fail> {
+/// A new block with this text. Its id.
+fn add(alloc: Global, disk: &mut Disk, text: &[u8]) -> Result<BlockId, Fail> {
     let id = disk.draw();
-    let (_, text) = block_at(alloc, disk, at)?;
-    disk.put(id, text)?;
+    disk.put(id, text.to_vec(alloc)?)?;
     Ok(id)
 }
 
-/// The block gets the text of the other one, and that one this block's where they are exchanged.
-fn move_text(alloc: Global, disk: &mut Disk, at: usize, exchanged: bool) -> Result<(), Fail> {
+/// The block gets the text of the next one, and that one this text where they are exchanged.
+fn move_text(
+    alloc: Global,
+    disk: &mut Disk,
+    at: usize,
+    text: &[u8],
+    exchanged: bool,
+) -> Result<(), Fail> {
     let behind = at.saturating_add(1);
     let next = if behind < disk.blocks.len() {
         behind
     } else {
         0
     };
-    let (_, text) = block_at(alloc, disk, at)?;
     let (_, other) = block_at(alloc, disk, next)?;
     set(disk, at, other);
     if exchanged {
-        set(disk, next, text);
+        set(disk, next, text.to_vec(alloc)?);
     }
     Ok(())
 }
 
-/// The block is a node over a new one that has its text.
-fn wrap(alloc: Global, disk: &mut Disk, at: usize, depth: u8) -> Result<(), Fail> {
-    let child = put_twin(alloc, disk, at)?;
-    let text = node_text(alloc, disk.payload, depth.saturating_add(1), &child.0)?;
-    set(disk, at, text);
-    Ok(())
+/// Damages the block of this number, whose text is a node of this depth, where it is a damage of whole blocks. Whether it is.
+fn damage_whole(
+    alloc: Global,
+    disk: &mut Disk,
+    damage: &str,
+    at: usize,
+    text: &[u8],
+    depth: u8,
+) -> Result<bool, Fail> {
+    match damage {
+        "gone" => take_out(disk, at),
+        "twin" => drop(add(alloc, disk, text)?),
+        "wrapped" => {
+            let below = add(alloc, disk, text)?;
+            let text = node_text(alloc, disk.payload, depth.saturating_add(1), &below.0)?;
+            set(disk, at, text);
+        }
+        "exchanged" | "copied" => move_text(alloc, disk, at, text, damage == "exchanged")?,
+        _ => return Ok(false),
+    }
+    Ok(true)
 }
 
 /// Damages the block of this number, whose payload holds a node.
-pub fn damage_block(alloc: Global, disk: &mut Disk, damage: Damage, at: usize) -> Result<(), Fail> {
+pub fn damage_block(alloc: Global, disk: &mut Disk, damage: &str, at: usize) -> Result<(), Fail> {
     let (id, text) = block_at(alloc, disk, at)?;
-    let Some(parts) = parts_of(&text) else {
+    let Some((depth, _, contents)) = parts_of(&text) else {
         return Ok(());
     };
-    match damage {
-        Damage::Gone => take_out(disk, at),
-        Damage::Twin => drop(put_twin(alloc, disk, at)?),
-        Damage::Wrapped => wrap(alloc, disk, at, parts.depth)?,
-        Damage::Exchanged => move_text(alloc, disk, at, true)?,
-        Damage::Copied => move_text(alloc, disk, at, false)?,
-        Damage::Deeper => {
-            let depth = parts.depth.wrapping_add(1);
-            let text = node_text(alloc, disk.payload, depth, parts.contents)?;
-            set(disk, at, text);
-        }
-        _ => {
-            let bytes = parts.contents.to_vec(alloc)?;
-            let bytes = holding(alloc, disk, damage, id, unit(parts.depth), bytes)?;
-            let text = node_text(alloc, disk.payload, parts.depth, &bytes)?;
-            set(disk, at, text);
-        }
+    if damage_whole(alloc, disk, damage, at, &text, depth)? {
+        return Ok(());
     }
+    let mut bytes = contents.to_vec(alloc)?;
+    damage_contents(alloc, disk, damage, id, unit(depth), &mut bytes)?;
+    let depth = if damage == "deeper" {
+        depth.wrapping_add(1)
+    } else {
+        depth
+    };
+    set(disk, at, node_text(alloc, disk.payload, depth, &bytes)?);
     Ok(())
 }

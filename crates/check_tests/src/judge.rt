@@ -1,15 +1,21 @@
 // A judge of blocks, who reads a whole blob before anything else. Of two flaws it names the one that comes first: blobs in
 // the order in which directories list them, level by level, and a blob's nodes before what the blob says.
-use crate::blocks::Disk;
-use crate::entries::{DIRECTORY, Entry, FILE, entry_in, front_of};
-use crate::nodes::{Parts, fan_out, ids_in, parts_of, room};
+use crate::blocks::{Disk, NONE};
+use crate::entries::{DIRECTORY, FILE, entry_in, front_of};
+use crate::nodes::{most, parts_of};
 use block_id::BlockId;
-use cryfs_check::block_walk::Flaw;
 use std::alloc::Global;
+use std::mem;
 use std::test::Fail;
 
 /// More blocks, and more blobs, than any disk here has.
 const MOST: u32 = 1_000_000;
+
+/// What is wrong, and the block that is named.
+type Found = Option<(&'static str, BlockId)>;
+
+/// A node that is needed: its id, its level unless it is a blob's root, and whether no byte may be missing.
+type Wanted = (BlockId, Option<u8>, bool);
 
 /// A blob that something refers to.
 #[derive(Drop)]
@@ -21,75 +27,39 @@ struct Blob {
     path: Vec<u8>,
 }
 
-/// A node that is needed: at any level where it is a blob's root, and full where no byte may be missing.
-#[derive(Clone, Copy)]
-struct Wanted {
-    id: BlockId,
-    level: Option<u8>,
-    full: bool,
-}
-
-/// A blob that is read: what is still wanted of it, the next node last, and its bytes so far.
-#[derive(Drop)]
-struct Reading {
-    wants: Vec<Wanted>,
-    bytes: Vec<u8>,
-}
-
 /// What the judge knows so far.
 #[derive(Drop)]
 pub struct Judge {
     blobs: Vec<Blob>,
     /// Each block that was needed, and the number of its blob.
     owned: Vec<(BlockId, usize)>,
-    flaw: Option<Flaw>,
+    /// What is still wanted of the blob that is read, the next node last.
+    wants: Vec<Wanted>,
+    /// The bytes of that blob so far.
+    bytes: Vec<u8>,
+    /// What is wrong first.
+    pub flaw: Found,
 }
 
 /// Whether a list of at most 2^40 bytes has a tree of this depth: one that a tree with one level less has no room for.
 fn is_low(payload: usize, depth: u8) -> bool {
-    let mut below = room(payload) as u64;
+    let mut below = most(payload, 0) as u64;
     for _ in 1..depth {
-        below = below.saturating_mul(fan_out(payload) as u64);
+        below = below.saturating_mul(most(payload, 1) as u64);
     }
     depth == 0 || below < 1_099_511_627_776
 }
 
-/// Whether a node is what is needed.
-fn serves(payload: usize, wanted: Wanted, parts: Parts<'_>) -> bool {
-    let most = if parts.depth == 0 {
-        room(payload)
-    } else {
-        fan_out(payload)
-    };
-    match wanted.level {
-        None => parts.depth == 0 || parts.count >= 2 && is_low(payload, parts.depth),
-        Some(level) => {
-            parts.depth == level && parts.count > 0 && (!wanted.full || parts.count == most)
-        }
+/// Whether a node of this depth and so many bytes or children is what is needed.
+fn serves(payload: usize, wanted: Wanted, depth: u8, count: usize) -> bool {
+    let (_, level, full) = wanted;
+    match level {
+        None => depth == 0 || count >= 2 && is_low(payload, depth),
+        Some(level) => depth == level && count > 0 && (!full || count == most(payload, depth)),
     }
-}
-
-/// Whether a link may have this target.
-fn is_target(body: &[u8]) -> bool {
-    !body.is_empty() && body.len() <= 4_095 && body.iter().all(|byte| *byte != 0)
 }
 
 impl Judge {
-    fn new(alloc: Global) -> Judge {
-        Judge {
-            blobs: Vec::new(alloc),
-            owned: Vec::new(alloc),
-            flaw: None,
-        }
-    }
-
-    /// Keeps the first flaw.
-    fn blame(&mut self, flaw: Flaw) {
-        if self.flaw.is_none() {
-            self.flaw = Some(flaw);
-        }
-    }
-
     /// The blob that owns a block.
     fn owner(&self, id: &BlockId) -> Option<usize> {
         for (owned, blob) in &self.owned {
@@ -101,186 +71,151 @@ impl Judge {
     }
 
     /// Wants the children of a node before all else, the first of them in front.
-    fn spread(
-        &mut self,
-        alloc: Global,
-        reading: &mut Reading,
-        wanted: Wanted,
-        parts: Parts<'_>,
-    ) -> Result<(), Fail> {
-        let children = ids_in(alloc, parts.contents)?;
-        let mut full = wanted.full;
-        for id in children.iter().rev() {
-            reading.wants.push(Wanted {
-                id: *id,
-                level: Some(parts.depth.saturating_sub(1)),
-                full,
-            })?;
+    fn want(&mut self, depth: u8, contents: &[u8], full: bool) -> Result<(), Fail> {
+        let level = Some(depth.saturating_sub(1));
+        let mut full = full;
+        for piece in contents.rchunks(16) {
+            if let Some((id, _)) = piece.split_first_chunk::<16>() {
+                self.wants.push((BlockId(*id), level, full))?;
+            }
             full = true;
         }
         Ok(())
     }
 
     /// Takes a node of the blob of this number.
-    fn take(
-        &mut self,
-        alloc: Global,
-        disk: &Disk,
-        number: usize,
-        reading: &mut Reading,
-        wanted: Wanted,
-    ) -> Result<(), Fail> {
-        let Some(text) = disk.text(&wanted.id) else {
-            self.blame(Flaw::NotLive(wanted.id));
-            return Ok(());
+    fn take(&mut self, disk: &Disk, number: usize, wanted: Wanted) -> Result<Found, Fail> {
+        let (id, _, full) = wanted;
+        let Some(text) = disk.text(&id) else {
+            return Ok(Some(("not-live", id)));
         };
-        if self.owner(&wanted.id).is_some() {
-            self.blame(Flaw::Twice(wanted.id));
-            return Ok(());
+        if self.owner(&id).is_some() {
+            return Ok(Some(("twice", id)));
         }
-        self.owned.push((wanted.id, number))?;
+        self.owned.push((id, number))?;
         match parts_of(text) {
-            Some(parts) if serves(disk.payload, wanted, parts) => {
-                if parts.depth > 0 {
-                    return self.spread(alloc, reading, wanted, parts);
+            Some((depth, count, contents)) if serves(disk.payload, wanted, depth, count) => {
+                if depth > 0 {
+                    self.want(depth, contents, full)?;
+                } else {
+                    self.bytes.extend_from_slice(contents)?;
                 }
-                reading.bytes.extend_from_slice(parts.contents)?;
+                Ok(None)
             }
-            _ => self.blame(Flaw::BadNode(wanted.id)),
+            _ => Ok(Some(("bad-node", id))),
         }
-        Ok(())
     }
 
-    /// The bytes of a blob, or some of them where something is wrong.
-    fn read(
-        &mut self,
-        alloc: Global,
-        disk: &Disk,
-        number: usize,
-        id: BlockId,
-    ) -> Result<Vec<u8>, Fail> {
-        let mut reading = Reading {
-            wants: Vec::new(alloc),
-            bytes: Vec::new(alloc),
-        };
-        reading.wants.push(Wanted {
-            id,
-            level: None,
-            full: false,
-        })?;
+    /// Reads the bytes of a blob, or some of them where something is wrong.
+    fn read(&mut self, disk: &Disk, number: usize, id: BlockId) -> Result<Found, Fail> {
+        self.wants.push((id, None, false))?;
         for _ in 0..MOST {
-            match reading.wants.pop() {
-                Some(wanted) if self.flaw.is_none() => {
-                    self.take(alloc, disk, number, &mut reading, wanted)?
-                }
-                _ => return Ok(reading.bytes),
+            let Some(wanted) = self.wants.pop() else {
+                return Ok(None);
+            };
+            let found = self.take(disk, number, wanted)?;
+            if found.is_some() {
+                return Ok(found);
             }
         }
         Err(Fail::from("too many nodes"))
     }
 
-    /// Refers to the blob of an entry of a directory.
-    fn refer(&mut self, alloc: Global, number: usize, entry: &Entry<'_>) -> Result<(), Fail> {
+    /// The path of a name in the directory of this number.
+    fn path_in(&self, alloc: Global, number: usize, name: &[u8]) -> Result<Vec<u8>, Fail> {
         let mut path = Vec::new(alloc);
-        let mut parent = BlockId([0; 16]);
         if let Some(directory) = self.blobs.get(number) {
             path.extend_from_slice(&directory.path)?;
-            parent = directory.id;
         }
         path.push(b'/')?;
-        path.extend_from_slice(entry.name)?;
-        self.blobs.push(Blob {
-            id: entry.blob,
-            kind: entry.kind,
-            parent,
-            path,
-        })?;
-        Ok(())
+        path.extend_from_slice(name)?;
+        Ok(path)
     }
 
-    /// Refers to the blobs of a directory's entries. Whether the body has entries, by rising names.
-    fn list(&mut self, alloc: Global, number: usize, body: &[u8]) -> Result<bool, Fail> {
+    /// Refers to the blobs of the entries of the directory of this number. Whether the body has entries, by rising names.
+    fn list(
+        &mut self,
+        alloc: Global,
+        number: usize,
+        parent: BlockId,
+        body: &[u8],
+    ) -> Result<bool, Fail> {
         let mut rest = body;
         let mut last: &[u8] = &[];
         for _ in 0..MOST {
             if rest.is_empty() {
                 return Ok(body.len() <= 67_108_864);
             }
-            let Some((entry, after)) = entry_in(rest) else {
+            let Some((kind, name, id, after)) = entry_in(rest) else {
                 return Ok(false);
             };
-            if entry.name.cmp(&last).is_le() {
+            if name.cmp(&last).is_le() {
                 return Ok(false);
             }
-            self.refer(alloc, number, &entry)?;
-            last = entry.name;
+            let path = self.path_in(alloc, number, name)?;
+            self.blobs.push(Blob {
+                id,
+                kind,
+                parent,
+                path,
+            })?;
+            last = name;
             rest = after;
         }
         Err(Fail::from("too many entries"))
     }
 
-    /// Judges a blob of this kind and parent by its bytes.
+    /// Judges a blob, of this id, kind and parent, by its bytes.
     fn judge_bytes(
         &mut self,
         alloc: Global,
         number: usize,
         blob: (BlockId, u8, BlockId),
         bytes: &[u8],
-    ) -> Result<(), Fail> {
+    ) -> Result<Found, Fail> {
         let (id, kind, parent) = blob;
-        let front = match front_of(bytes) {
-            Some(front) if front.kind == kind => front,
-            _ => {
-                self.blame(Flaw::BadBlob(id));
-                return Ok(());
-            }
+        let fits = match front_of(bytes) {
+            Some((said, _, _)) if said != kind => false,
+            Some((_, above, _)) if above != parent => return Ok(Some(("parent", id))),
+            Some((DIRECTORY, _, body)) => self.list(alloc, number, id, body)?,
+            Some((FILE, _, body)) => body.len() <= 68_719_476_736,
+            Some((_, _, body)) => !body.is_empty() && body.len() <= 4_095 && !body.contains(&0),
+            None => false,
         };
-        if front.parent != parent {
-            self.blame(Flaw::Parent(id));
-        }
-        let fits = match kind {
-            DIRECTORY => self.list(alloc, number, front.body)?,
-            FILE => front.body.len() <= 68_719_476_736,
-            _ => is_target(front.body),
-        };
-        if !fits {
-            self.blame(Flaw::BadBlob(id));
-        }
-        Ok(())
+        Ok(if fits { None } else { Some(("bad-blob", id)) })
     }
 
-    /// Reads and judges the blob of this number.
-    fn judge_blob(&mut self, alloc: Global, disk: &Disk, number: usize) -> Result<(), Fail> {
-        let blob = match self.blobs.get(number) {
-            Some(blob) => (blob.id, blob.kind, blob.parent),
-            None => return Ok(()),
-        };
-        let bytes = self.read(alloc, disk, number, blob.0)?;
-        if self.flaw.is_some() {
-            return Ok(());
-        }
-        self.judge_bytes(alloc, number, blob, &bytes)
-    }
-
-    /// Looks for the block with the least id that nothing refers to.
-    fn look_for_unowned(&mut self, disk: &Disk) {
-        let mut least: Option<BlockId> = None;
-        for block in &disk.blocks {
-            if self.owner(&block.id).is_none() {
+    /// The block with the least id that nothing refers to.
+    fn unowned(&self, disk: &Disk) -> Found {
+        let mut least: Found = None;
+        for (id, _) in &disk.blocks {
+            if self.owner(id).is_none() {
                 least = match least {
-                    Some(id) if id < block.id => Some(id),
-                    _ => Some(block.id),
+                    Some((word, known)) if known < *id => Some((word, known)),
+                    _ => Some(("unowned", *id)),
                 };
             }
         }
-        if let Some(id) = least {
-            self.blame(Flaw::Unowned(id));
-        }
+        least
     }
 
-    /// What is wrong first.
-    pub fn flaw(&self) -> Option<Flaw> {
-        self.flaw
+    /// Reads and judges each blob that something refers to, from the root on.
+    fn judge_all(&mut self, alloc: Global, disk: &Disk) -> Result<Found, Fail> {
+        for number in 0..MOST as usize {
+            let blob = match self.blobs.get(number) {
+                Some(blob) => (blob.id, blob.kind, blob.parent),
+                None => return Ok(self.unowned(disk)),
+            };
+            let mut found = self.read(disk, number, blob.0)?;
+            if found.is_none() {
+                let bytes = mem::replace(&mut self.bytes, Vec::new(alloc));
+                found = self.judge_bytes(alloc, number, blob, &bytes)?;
+            }
+            if found.is_some() {
+                return Ok(found);
+            }
+        }
+        Err(Fail::from("too many blobs"))
     }
 
     /// The path of the blob that a block belongs to, with a slash before each name.
@@ -294,22 +229,19 @@ impl Judge {
 
 /// Judges a disk from its root on.
 pub fn judged(alloc: Global, disk: &Disk) -> Result<Judge, Fail> {
-    let mut judge = Judge::new(alloc);
+    let mut judge = Judge {
+        blobs: Vec::new(alloc),
+        owned: Vec::new(alloc),
+        wants: Vec::new(alloc),
+        bytes: Vec::new(alloc),
+        flaw: None,
+    };
     judge.blobs.push(Blob {
         id: disk.root,
         kind: DIRECTORY,
-        parent: BlockId([0; 16]),
+        parent: NONE,
         path: Vec::new(alloc),
     })?;
-    for number in 0..MOST as usize {
-        if judge.flaw.is_some() {
-            return Ok(judge);
-        }
-        if number >= judge.blobs.len() {
-            judge.look_for_unowned(disk);
-            return Ok(judge);
-        }
-        judge.judge_blob(alloc, disk, number)?;
-    }
-    Err(Fail::from("too many blobs"))
+    judge.flaw = judge.judge_all(alloc, disk)?;
+    Ok(judge)
 }

@@ -2,32 +2,26 @@
 #![tactic(auto)]
 
 #[cfg(test)]
-mod blob_rows;
-#[cfg(test)]
 mod blobs;
 #[cfg(test)]
 mod blocks;
 #[cfg(test)]
-mod bytes;
-#[cfg(test)]
 mod comparing;
+#[cfg(test)]
+mod contents;
+#[cfg(test)]
+mod damaged;
 #[cfg(test)]
 mod damages;
 #[cfg(test)]
 mod entries;
 #[cfg(test)]
-mod entry_rows;
-#[cfg(test)]
 mod judge;
 #[cfg(test)]
 mod nodes;
 #[cfg(test)]
-mod places;
-#[cfg(test)]
-mod samples;
+mod rows;
 #[cfg(test)]
 mod stores;
 #[cfg(test)]
-mod tree_rows;
-#[cfg(test)]
-mod twofold;
+mod stories;

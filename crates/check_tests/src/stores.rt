@@ -15,12 +15,12 @@ fn put_all<S: BlocksMut>(alloc: Global, store: &mut S, disk: &Disk) -> Result<()
     ensures { S.Blocks.meanings.intact store.new }
 {
     let mut chance = Pcg32::new(1, 2);
-    for block in &disk.blocks {
-        if store.is_used(&block.id) {
+    for (id, text) in &disk.blocks {
+        if store.is_used(id) {
             return Err(Fail::from("a used id"));
         }
-        let text = block.text.as_slice().to_vec(alloc)?;
-        put_one(alloc, store, &block.id, text, &mut chance)?;
+        let text = text.as_slice().to_vec(alloc)?;
+        put_one(alloc, store, id, text, &mut chance)?;
     }
     Ok(())
 }
