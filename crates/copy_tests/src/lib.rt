@@ -3,30 +3,22 @@
 #![tactic(auto)]
 
 #[cfg(test)]
-mod file_gets;
-#[cfg(test)]
-mod file_puts;
-#[cfg(test)]
-mod files;
+mod endings;
 #[cfg(test)]
 mod folders;
 #[cfg(test)]
+mod inputs;
+#[cfg(test)]
+mod over_trees;
+#[cfg(test)]
 mod plain_asker;
-#[cfg(test)]
-mod run_exports;
-#[cfg(test)]
-mod run_files;
-#[cfg(test)]
-mod run_imports;
-#[cfg(test)]
-mod run_stops;
-#[cfg(test)]
-mod run_words;
 #[cfg(test)]
 mod runs;
 #[cfg(test)]
-mod tree_exports;
+mod singles;
 #[cfg(test)]
-mod tree_imports;
+mod stories;
+#[cfg(test)]
+mod systems;
 #[cfg(test)]
 mod trees;
