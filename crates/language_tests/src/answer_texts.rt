@@ -6,60 +6,69 @@ use fs_model::{ByteText, FsError, Reply};
 use std::alloc::{AllocError, Global};
 use std::test::Fail;
 
-/// The answer prints so, after what stands there.
-fn prints(alloc: Global, answer: Answer, text: &str) -> Result<bool, AllocError> {
-    let mut out = b"> ".to_vec(alloc)?;
-    let Ok(()) = print_answer(&answer, &mut out) else {
-        return Err(AllocError);
-    };
-    Ok(out.as_slice() == format!(in alloc; "> {text}")?.as_bytes())
+/// Prints an answer behind what is printed.
+fn print(out: &mut Vec<u8>, answer: &Answer) -> Result<(), Fail> {
+    match print_answer(answer, out) {
+        Ok(()) => Ok(()),
+        Err(_) => Err(Fail::new("memory")),
+    }
 }
 
 const SECOND: BlockId = BlockId([0, 0, 0, 0, 0, 0, 0, 0, 0, 0, 0, 0, 0, 0, 0, 2]);
 
-#[test]
-fn prints_each_answer(rt: HostRuntime) -> Result<(), Fail> {
-    let alloc = rt.alloc();
-    assert!(rt; prints(alloc, Answer::Reply(Reply::Done), "ok\n")?);
-    assert!(rt; prints(alloc, Answer::Memory, "memory\n")?);
-    assert!(rt; prints(alloc, Answer::Spent, "spent\n")?);
-    assert!(rt; prints(alloc, Answer::FaultDirectory, "fault directory\n")?);
-    assert!(rt; prints(alloc, Answer::FaultState, "fault state\n")?);
-    assert!(rt; prints(alloc, Answer::Refused, "refused violation\n")?);
-    Ok(())
-}
-
-const VIOLATIONS: &[(Why, &str)] = &[
-    (Why::Missing, "violation missing\n"),
-    (Why::BadLength, "violation bad-length\n"),
-    (Why::BadPrefix, "violation bad-prefix\n"),
-    (Why::OldFormat, "violation old-format\n"),
-    (Why::NotOpened, "violation not-opened\n"),
-    (Why::BadRecord, "violation bad-record\n"),
-    (
+/// Prints each violation.
+fn print_violations(out: &mut Vec<u8>) -> Result<(), Fail> {
+    for why in [
+        Why::Missing,
+        Why::BadLength,
+        Why::BadPrefix,
+        Why::OldFormat,
+        Why::NotOpened,
+        Why::BadRecord,
         Why::WrongId(SECOND),
-        "violation wrong-id 00000000000000000000000000000002\n",
-    ),
-    (Why::ForeignClient(7), "violation foreign-client 7\n"),
-    (
+        Why::ForeignClient(7),
         Why::OldVersion { known: 3, found: 2 },
-        "violation old-version 3 2\n",
-    ),
-    (
         Why::AheadVersion {
             known: 4,
             found: 10,
         },
-        "violation ahead-version 4 10\n",
-    ),
-    (Why::Structure, "violation structure\n"),
-];
+        Why::Structure,
+    ] {
+        print(out, &Answer::Violation(why))?;
+    }
+    Ok(())
+}
+
+const TEXTS: &str = "> ok
+memory
+spent
+fault directory
+fault state
+refused violation
+violation missing
+violation bad-length
+violation bad-prefix
+violation old-format
+violation not-opened
+violation bad-record
+violation wrong-id 00000000000000000000000000000002
+violation foreign-client 7
+violation old-version 3 2
+violation ahead-version 4 10
+violation structure
+";
 
 #[test]
-fn prints_each_violation(rt: HostRuntime) -> Result<(), Fail> {
-    for (why, text) in VIOLATIONS {
-        assert!(rt; prints(rt.alloc(), Answer::Violation(*why), text)?);
-    }
+fn prints_each_answer_and_each_violation(rt: HostRuntime) -> Result<(), Fail> {
+    let mut out = b"> ".to_vec(rt.alloc())?;
+    print(&mut out, &Answer::Reply(Reply::Done))?;
+    print(&mut out, &Answer::Memory)?;
+    print(&mut out, &Answer::Spent)?;
+    print(&mut out, &Answer::FaultDirectory)?;
+    print(&mut out, &Answer::FaultState)?;
+    print(&mut out, &Answer::Refused)?;
+    print_violations(&mut out)?;
+    assert_eq!(rt; str::from_utf8(&out).unwrap_or("bytes"), TEXTS);
     Ok(())
 }
 

@@ -1,78 +1,66 @@
 // Words of `create`, and what they say.
 
-use shell_words::parse_create_options;
+use crate::rows::{Taken, tell};
+use shell_words::{CreateOptions, parse_create_options};
 use std::alloc::{AllocError, Global};
 use std::test::Fail;
 
-/// The block size, N, r and p.
-type Said = (u32, u64, u32, u32);
-
-fn owned(alloc: Global, words: &[&str]) -> Result<Vec<String>, AllocError> {
-    let mut owned = Vec::new(alloc);
-    for word in words {
-        owned.push(String::from_str(alloc, word)?)?;
+/// The words of a line, between which bars stand, or none.
+fn words_of(alloc: Global, line: &str) -> Result<Vec<String>, AllocError> {
+    let mut words = Vec::new(alloc);
+    if line != "(no words)" {
+        for word in line.split('|') {
+            words.push(String::from_str(alloc, word)?)?;
+        }
     }
-    Ok(owned)
+    Ok(words)
 }
 
-/// What the words say, if they do.
-fn meaning(alloc: Global, words: &[&str]) -> Result<Option<Said>, Fail> {
-    let words = owned(alloc, words)?;
-    Ok(match parse_create_options(alloc, &words)? {
-        Some(options) => Some((
-            options.block_size,
-            options.params.n(),
-            options.params.r(),
-            options.params.p(),
-        )),
-        None => None,
+/// The options that words say, with nothing said of them.
+fn options_of(alloc: Global, words: &[String]) -> Result<Option<CreateOptions>, Fail> {
+    Ok(parse_create_options(alloc, words)?)
+}
+
+/// The block size, N, r and p that a line's words say, if they do.
+pub fn words_told(alloc: Global, line: &str) -> Result<String, Fail> {
+    let words = words_of(alloc, line)?;
+    Ok(match options_of(alloc, &words)? {
+        Some(options) => {
+            let params = options.params;
+            let size = options.block_size;
+            format!(in alloc; "{size} {} {} {}", params.n(), params.r(), params.p())?
+        }
+        None => String::from_str(alloc, "refused")?,
     })
 }
 
-const SAYING: &[(&[&str], Said)] = &[
-    (&[], (16384, 32768, 8, 1)),
-    (&["--blocksize", "128"], (128, 32768, 8, 1)),
-    (&["--blocksize=1048576"], (1048576, 32768, 8, 1)),
-    (&["--scrypt-n", "2"], (16384, 2, 8, 1)),
-    (&["--scrypt-n=1048576"], (16384, 1048576, 8, 1)),
-    (&["--scrypt-r", "1"], (16384, 32768, 1, 1)),
-    (&["--scrypt-r=8"], (16384, 32768, 8, 1)),
-    (&["--scrypt-p", "1"], (16384, 32768, 8, 1)),
-    (&["--scrypt-p=16"], (16384, 32768, 8, 16)),
-    (
-        &[
-            "--scrypt-p=2",
-            "--scrypt-r",
-            "3",
-            "--blocksize",
-            "4096",
-            "--scrypt-n=64",
-        ],
-        (4096, 64, 3, 2),
-    ),
-    (&["--blocksize=00000000000000004096"], (4096, 32768, 8, 1)),
-];
+/// The block size, N, r and p.
+const SAYING: &str = "# 16384 32768 8 1
+(no words)
+--scrypt-p|1
+# 128 32768 8 1
+--blocksize|128
+# 1048576 32768 8 1
+--blocksize=1048576
+# 16384 2 8 1
+--scrypt-n|2
+# 16384 1048576 8 1
+--scrypt-n=1048576
+# 16384 32768 1 1
+--scrypt-r|1
+# 16384 32768 8 1
+--scrypt-r=8
+# 16384 32768 8 16
+--scrypt-p=16
+# 4096 64 3 2
+--scrypt-p=2|--scrypt-r|3|--blocksize|4096|--scrypt-n=64
+# 4096 32768 8 1
+--blocksize=00000000000000004096
+";
 
-#[test]
-fn reads_options(rt: HostRuntime) -> Result<(), Fail> {
-    for (words, wanted) in SAYING {
-        assert!(rt; meaning(rt.alloc(), words)? == Some(*wanted));
-    }
-    Ok(())
-}
-
-/// Whether the words of each line are refused, between which bars stand.
-fn all_are_refused(alloc: Global, lines: &str) -> Result<bool, Fail> {
-    for line in lines.split('\n') {
-        let words: Vec<&str> = line.split('|').collect(alloc)?;
-        if meaning(alloc, &words)?.is_some() {
-            return Ok(false);
-        }
-    }
-    Ok(true)
-}
-
-const NO_OPTIONS: &str = "--
+/// Words that are no options, an option that is there twice or has no value, and values.
+const REFUSED: &str = "# refused
+--
 --|--blocksize|128
 --blocksize|128|--
 --blocksize|--|128
@@ -89,15 +77,8 @@ blocksize|128
 128
 
 -
---blocksize|128|4096";
-
-#[test]
-fn refuses_words_that_are_no_options(rt: HostRuntime) -> Result<(), Fail> {
-    assert!(rt; all_are_refused(rt.alloc(), NO_OPTIONS)?);
-    Ok(())
-}
-
-const TWICE: &str = "--blocksize|128|--blocksize|128
+--blocksize|128|4096
+--blocksize|128|--blocksize|128
 --scrypt-n=16|--scrypt-n|16
 --scrypt-r|1|--scrypt-p|1|--scrypt-r=1
 --scrypt-p=1|--scrypt-p=1
@@ -105,15 +86,8 @@ const TWICE: &str = "--blocksize|128|--blocksize|128
 --blocksize|--scrypt-n|16
 --scrypt-n|16|--scrypt-r
 --blocksize=
---blocksize|";
-
-#[test]
-fn refuses_an_option_that_is_there_twice_or_has_no_value(rt: HostRuntime) -> Result<(), Fail> {
-    assert!(rt; all_are_refused(rt.alloc(), TWICE)?);
-    Ok(())
-}
-
-const VALUES: &str = "--blocksize=127
+--blocksize|
+--blocksize=127
 --blocksize=1048577
 --scrypt-n=0
 --scrypt-n=1
@@ -133,10 +107,11 @@ const VALUES: &str = "--blocksize=127
 --scrypt-n=1_6
 --scrypt-n==16
 --scrypt-n=16.0
---scrypt-n=\u{0661}\u{0666}";
+--scrypt-n=\u{0661}\u{0666}
+";
 
 #[test]
-fn refuses_values(rt: HostRuntime) -> Result<(), Fail> {
-    assert!(rt; all_are_refused(rt.alloc(), VALUES)?);
-    Ok(())
+fn words_say_options_or_are_refused(rt: HostRuntime) -> Result<(), Fail> {
+    tell(&rt, &Taken::Words, SAYING)?;
+    tell(&rt, &Taken::Words, REFUSED)
 }

@@ -1,91 +1,71 @@
-// Names and paths of texts.
+// Texts as paths, and names.
 
+use crate::rows::{Taken, tell};
 use answers::script_text::{PathError, parse_path};
 use fs_model::{Name, Path};
-use std::alloc::{AllocError, Global};
+use std::alloc::Global;
 use std::test::Fail;
 
-/// How many names the text has, or its refusal.
-fn count_names(alloc: Global, text: &[u8]) -> Result<usize, PathError> {
-    match parse_path(alloc, text) {
-        Ok(path) => Ok(path.names().len()),
-        Err(error) => Err(error),
-    }
+/// How many names the text of a path has, or why it is none.
+pub fn path_told(alloc: Global, text: &str) -> Result<String, Fail> {
+    let refusal = match parse_path(alloc, text.as_bytes()) {
+        Ok(path) => return Ok(format!(in alloc; "names {}", path.names().len())?),
+        Err(PathError::Form) => "form",
+        Err(PathError::Dot) => "dot",
+        Err(PathError::LongName) => "long name",
+        Err(PathError::LongPath) => "long path",
+        Err(PathError::Memory) => "memory",
+    };
+    Ok(String::from_str(alloc, refusal)?)
 }
 
-const TEXTS: &[(&str, Result<usize, PathError>)] = &[
-    ("/", Ok(0)),
-    ("/a", Ok(1)),
-    ("/a/bc", Ok(2)),
-    ("/...", Ok(1)),
-    ("", Err(PathError::Form)),
-    ("a", Err(PathError::Form)),
-    ("//", Err(PathError::Form)),
-    ("/a/", Err(PathError::Form)),
-    ("/.//", Err(PathError::Form)),
-    ("/a\0", Err(PathError::Form)),
-    ("/.", Err(PathError::Dot)),
-    ("/a/../b", Err(PathError::Dot)),
-];
+/// An empty text, and texts of 256, 257, 4,096 and 4,097 bytes, are among them.
+const TEXTS: &str = "# names 0
+/
+# names 1
+/a
+/...
+/{a*255}
+# names 2
+/a/bc
+# form
+
+a
+//
+/a/
+/.//
+/a\0
+# dot
+/.
+/a/../b
+# long name
+/{a*256}
+/{a*4095}
+# long path
+/{a*4096}
+";
 
 #[test]
-fn texts_are_refused_in_order(rt: HostRuntime) {
-    for (text, answer) in TEXTS {
-        assert!(rt; count_names(rt.alloc(), text.as_bytes()) == *answer);
-    }
-}
-
-/// A slash and letters, so many bytes.
-fn long_text(alloc: Global, len: usize) -> Result<Vec<u8>, AllocError> {
-    let mut long = b"/".to_vec(alloc)?;
-    long.resize(len, 97)?;
-    Ok(long)
-}
-
-const LENGTHS: &[(usize, Result<usize, PathError>)] = &[
-    (256, Ok(1)),
-    (257, Err(PathError::LongName)),
-    (4_096, Err(PathError::LongName)),
-    (4_097, Err(PathError::LongPath)),
-];
-
-#[test]
-fn long_texts_are_refused(rt: HostRuntime) -> Result<(), Fail> {
-    for (len, answer) in LENGTHS {
-        let long = long_text(rt.alloc(), *len)?;
-        assert!(rt; count_names(rt.alloc(), &long) == *answer);
-    }
-    Ok(())
+fn texts_are_paths_or_are_refused_in_order(rt: HostRuntime) -> Result<(), Fail> {
+    tell(&rt, &Taken::Path, TEXTS)
 }
 
 /// A path of a name and its copy.
 fn doubled(alloc: Global, text: &[u8]) -> Result<Path, Fail> {
-    let name = Name::new(text.to_vec(alloc)?).ok_or("name")?;
+    let name = Name::new(text.to_vec(alloc)?).ok_or("a name")?;
     let mut path = Path::root(alloc);
     path.push(name.try_clone()?)?;
     path.push(name)?;
     Ok(path)
 }
 
-fn all_are(path: &Path, text: &[u8]) -> bool {
-    for name in path.names() {
-        if name.as_slice() != text {
-            return false;
-        }
-    }
-    true
-}
-
 #[test]
-fn copies_are_equal(rt: HostRuntime) -> Result<(), Fail> {
+fn copies_of_names_are_equal_and_two_dots_are_none(rt: HostRuntime) -> Result<(), Fail> {
     let path = doubled(rt.alloc(), b"a")?;
-    assert!(rt; all_are(&path, b"a"));
+    for name in path.names() {
+        assert_eq!(rt; name.as_slice(), b"a".as_slice());
+    }
     assert_eq!(rt; path.names().len(), 2);
-    Ok(())
-}
-
-#[test]
-fn two_dots_are_no_name(rt: HostRuntime) -> Result<(), Fail> {
     assert!(rt; Name::new(b"..".to_vec(rt.alloc())?).is_none());
     Ok(())
 }

@@ -10,6 +10,6 @@ mod fs_models;
 #[cfg(test)]
 mod plain_trees;
 #[cfg(test)]
-mod script_texts;
+mod rows;
 #[cfg(test)]
-mod workloads;
+mod script_texts;
