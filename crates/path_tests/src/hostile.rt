@@ -1,6 +1,6 @@
 // Blobs that show no tree: each command returns, with an error or a reply of its form.
-use crate::site::{Site, asked, empty_site, text_of};
-use block_id::{BlockId, Fail as Failure, Why};
+use crate::site::{Site, empty_site, parsed, shown};
+use block_id::BlockId;
 use fs_model::{Attr, FILE_MODE, Kind, Moment, Name};
 use std::alloc::Global;
 use std::test::Fail;
@@ -8,56 +8,10 @@ use tree_commands::dir_blob::insert;
 use tree_commands::dir_entries::Entry;
 use tree_commands::fs_blobs::{Header, new_blob};
 
-/// A line, and its reply, or None where the blobs are found to be no tree.
-type Row = (&'static str, Option<&'static str>);
-
-/// Whether a line is answered so.
-fn is_answered(
-    alloc: Global,
-    site: &mut Site,
-    now: Moment,
-    line: &str,
-    wanted: Option<&str>,
-) -> Result<bool, Fail> {
-    match asked(alloc, site, now, line)? {
-        Err(Failure::Violation(Why::Structure)) => Ok(wanted.is_none()),
-        Err(_) => Ok(false),
-        Ok(reply) => {
-            let text = text_of(alloc, &reply)?;
-            Ok(match wanted {
-                Some(wanted) => text.as_slice() == wanted.as_bytes(),
-                None => false,
-            })
-        }
-    }
-}
-
-/// Each line is answered so, one after another.
-fn all_are_answered(alloc: Global, site: &mut Site, rows: &[Row]) -> Result<(), Fail> {
+/// What a line is answered, or that the blobs are no tree.
+fn seen(alloc: Global, site: &mut Site, line: &str) -> Result<String, Fail> {
     let now = Moment::new(9, 0).ok_or("nanos")?;
-    for (line, wanted) in rows {
-        if !is_answered(alloc, site, now, line, *wanted)? {
-            return Err(Fail::new(format_args!("{line:?} is not answered {wanted:?}")));
-        }
-    }
-    Ok(())
-}
-
-// A move within a directory changes nothing of what moves, so it doesn't ask for it; one to another directory does.
-const WITHOUT_A_BLOB: &[Row] = &[
-    ("ls /a", None),
-    ("mkfile /a/b", None),
-    ("mv /a /b", Some("ok\n")),
-    ("mkdir /d", Some("ok\n")),
-    ("mv /b /d/b", None),
-];
-
-#[test]
-fn an_entry_without_its_blob(rt: HostRuntime) -> Result<(), Fail> {
-    let alloc = rt.alloc();
-    let mut site = empty_site(alloc)?;
-    name_in_root(alloc, &mut site, Kind::Directory, BlockId([9; 16]))?;
-    all_are_answered(alloc, &mut site, WITHOUT_A_BLOB)
+    shown(alloc, site, now, &parsed(alloc, line)?)
 }
 
 /// The id of a new file's blob.
@@ -69,31 +23,13 @@ fn new_file(alloc: Global, site: &mut Site) -> Result<BlockId, Fail> {
     Ok(new_blob(alloc, &mut site.blobs, &header, b"no entry")?)
 }
 
-#[test]
-fn a_file_where_a_directory_is_said(rt: HostRuntime) -> Result<(), Fail> {
-    let alloc = rt.alloc();
-    let mut site = empty_site(alloc)?;
-    let file = new_file(alloc, &mut site)?;
-    name_in_root(alloc, &mut site, Kind::Directory, file)?;
-    all_are_answered(alloc, &mut site, &[("ls /a", None), ("stat /a/b", None)])
-}
-
-#[test]
-fn a_directory_that_is_below_itself(rt: HostRuntime) -> Result<(), Fail> {
-    let alloc = rt.alloc();
-    let mut site = empty_site(alloc)?;
-    let root = site.root;
-    name_in_root(alloc, &mut site, Kind::Directory, root)?;
-    all_are_answered(alloc, &mut site, &[("ls /a/a/a", Some("list 1\nd a\n"))])
-}
-
-/// An entry `/a` of this kind and blob.
-fn name_in_root(alloc: Global, site: &mut Site, kind: Kind, blob: BlockId) -> Result<(), Fail> {
+/// An entry `/a` that is said to be a directory, of this blob.
+fn name_in_root(alloc: Global, site: &mut Site, blob: BlockId) -> Result<(), Fail> {
     let zero = Moment::new(0, 0).ok_or("nanos")?;
     let entry = Entry {
         name: Name::new(b"a".to_vec(alloc)?).ok_or("a name")?,
         attr: Attr {
-            kind,
+            kind: Kind::Directory,
             mode: FILE_MODE,
             uid: 0,
             gid: 0,
@@ -104,4 +40,70 @@ fn name_in_root(alloc: Global, site: &mut Site, kind: Kind, blob: BlockId) -> Re
         blob,
     };
     Ok(insert(alloc, &mut site.blobs, &site.root, &entry)?)
+}
+
+/// Names in the root what a title says.
+fn name_what(alloc: Global, site: &mut Site, title: &str) -> Result<(), Fail> {
+    let blob = match title {
+        "an entry without its blob" => BlockId([9; 16]),
+        "a file where a directory is said" => new_file(alloc, site)?,
+        "a directory that is below itself" => site.root,
+        _ => return Err(Fail::from("a title")),
+    };
+    name_in_root(alloc, site, blob)
+}
+
+/// The lines of a story are answered so, one after another.
+fn play(alloc: Global, site: &mut Site, story: &str) -> Result<(), Fail> {
+    let (title, rows) = story
+        .split_once("\n> ")
+        .ok_or("a title stands before rows")?;
+    name_what(alloc, site, title)?;
+    for row in rows.split("> ") {
+        let (line, wanted) = row.split_once('\n').ok_or("an answer stands below a line")?;
+        let found = seen(alloc, site, line)?;
+        if found.as_str() != wanted {
+            return Err(Fail::new(format_args!("{title}: {line} is answered {found:?}")));
+        }
+    }
+    Ok(())
+}
+
+/// A story over blobs of its own.
+fn is_so(alloc: Global, story: &str) -> Result<(), Fail> {
+    let mut site = empty_site(alloc)?;
+    play(alloc, &mut site, story)
+}
+
+/// A move within a directory changes nothing of what moves, so it doesn't ask for it; one to another directory does.
+const STORIES: &str = "# an entry without its blob
+> ls /a
+no tree
+> mkfile /a/b
+no tree
+> mv /a /b
+ok
+> mkdir /d
+ok
+> mv /b /d/b
+no tree
+# a file where a directory is said
+> ls /a
+no tree
+> stat /a/b
+no tree
+# a directory that is below itself
+> ls /a/a/a
+list 1
+d a
+";
+
+#[test]
+fn blobs_that_are_no_tree_are_found_or_answer(rt: HostRuntime) -> Result<(), Fail> {
+    for story in STORIES.split("# ") {
+        if !story.is_empty() {
+            is_so(rt.alloc(), story)?;
+        }
+    }
+    Ok(())
 }

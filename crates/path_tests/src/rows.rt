@@ -1,7 +1,7 @@
-// Lines and their replies, on blobs and on the tree in memory.
-use crate::site::{Site, answer, empty_site, told};
+// Lines and their replies, on blobs and on the tree in memory, and moves over the whole tower.
+use crate::site::{Site, answer, empty_site};
+use crate::tower::{answers, empty_store};
 use fs_model::Moment;
-use plain_tree::PlainTree;
 use std::alloc::Global;
 use std::test::Fail;
 
@@ -12,35 +12,42 @@ fn parts(row: &str) -> Option<(u64, &str, &str)> {
     Some((secs.parse().ok()?, line, reply))
 }
 
-/// Both answer the line of a row so.
-fn is_answered(
-    alloc: Global,
-    site: &mut Site,
-    tree: &mut PlainTree,
-    nanos: u32,
-    row: &str,
-) -> Result<(), Fail> {
+/// The blobs and the tree in memory answer the line of a row so.
+fn is_answered(alloc: Global, site: &mut Site, nanos: u32, row: &str) -> Result<(), Fail> {
     let (secs, line, text) = parts(row).ok_or("a row")?;
     let now = Moment::new(secs, nanos).ok_or("nanos")?;
     let reply = answer(alloc, site, now, line)?;
-    let told = told(alloc, tree, now, line)?;
-    if reply.as_slice() == text.as_bytes() && told.as_slice() == text.as_bytes() {
+    if reply.as_str() == text {
         Ok(())
     } else {
-        Err(Fail::new(format_args!("not so: {row}")))
+        Err(Fail::new(format_args!("{reply:?} and not so: {row}")))
     }
 }
 
-/// Both answer the rows so, one after another, so many nanoseconds after their seconds. Each row begins with `> `.
+/// The rows are answered so, one after another, so many nanoseconds after their seconds. Each row begins with `> `.
 fn all_are_answered(alloc: Global, nanos: u32, rows: &str) -> Result<(), Fail> {
     let mut site = empty_site(alloc)?;
-    let mut tree = PlainTree::new(alloc);
     for row in rows.split("> ") {
         if !row.is_empty() {
-            is_answered(alloc, &mut site, &mut tree, nanos, row)?;
+            is_answered(alloc, &mut site, nanos, row)?;
         }
     }
     Ok(())
+}
+
+/// The lines of the rows, and their replies.
+fn apart(alloc: Global, rows: &str) -> Result<(String, String), Fail> {
+    let mut lines = String::new(alloc);
+    let mut replies = String::new(alloc);
+    for row in rows.split("> ") {
+        if !row.is_empty() {
+            let (_, line, text) = parts(row).ok_or("a row")?;
+            lines.push_str(line)?;
+            lines.push('\n')?;
+            replies.push_str(text)?;
+        }
+    }
+    Ok((lines, replies))
 }
 
 /// Moves, and what each refusal stands before.
@@ -77,10 +84,14 @@ d c
 f f
 > 100 mv /c /b/c
 ok
+> 100 stat /b/c/x
+stat f 644 0 0 0 100.000000005 100.000000005 100.000000005
 > 100 ls /c
 error no-entry
 > 100 write /b/c/x 0 6162
 ok
+> 100 read /b/c/x 0 10
+data 6162
 > 100 mv /b /z
 ok
 > 100 read /z/c/x 0 100
@@ -92,11 +103,6 @@ ok
 > 100 stat /b/c/x
 stat f 644 0 0 0 100.000000005 100.000000005 100.000000005
 ";
-
-#[test]
-fn moves_follow_the_order_of_errors(rt: HostRuntime) -> Result<(), Fail> {
-    all_are_answered(rt.alloc(), 5, MOVES)
-}
 
 /// Files and links.
 const FILES: &str = "> 9 mkfile /f
@@ -137,11 +143,6 @@ error not-directory
 error invalid
 ";
 
-#[test]
-fn files_and_links_and_their_refusals(rt: HostRuntime) -> Result<(), Fail> {
-    all_are_answered(rt.alloc(), 0, FILES)
-}
-
 /// Removals.
 const STAYS: &str = "> 9 mkdir /d
 ok
@@ -168,11 +169,6 @@ ok
 > 9 ls /
 list 0
 ";
-
-#[test]
-fn what_may_not_go_stays(rt: HostRuntime) -> Result<(), Fail> {
-    all_are_answered(rt.alloc(), 0, STAYS)
-}
 
 /// Changes of children, and the moments of their directories.
 const TOUCHES: &str = "> 9 mkdir /a
@@ -260,6 +256,17 @@ stat d 755 0 0 0 0.000000000 0.000000000 0.000000000
 ";
 
 #[test]
-fn directories_take_the_moment_at_which_their_children_change(rt: HostRuntime) -> Result<(), Fail> {
+fn the_worked_rows_are_answered(rt: HostRuntime) -> Result<(), Fail> {
+    all_are_answered(rt.alloc(), 5, MOVES)?;
+    all_are_answered(rt.alloc(), 0, FILES)?;
+    all_are_answered(rt.alloc(), 0, STAYS)?;
     all_are_answered(rt.alloc(), 0, TOUCHES)
+}
+
+#[test]
+fn moves_over_the_tower_follow_the_order_of_errors(rt: HostRuntime) -> Result<(), Fail> {
+    let (lines, replies) = apart(rt.alloc(), MOVES)?;
+    let found = answers(rt.alloc(), empty_store(rt.alloc())?, &lines)?;
+    assert_eq!(rt; found.as_str(), replies.as_str());
+    Ok(())
 }

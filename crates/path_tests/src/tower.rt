@@ -4,16 +4,16 @@ ghost use Rattle.integrity_store.specs.sealed_store.Stores.{IsIntact, block_size
 ghost use Rattle.store_session.specs.store_api.Holdings.{IsFew};
 ghost use Rattle.store_session.specs.store_api.Txs.{intact_in};
 
+use crate::site::{parsed, text_of};
 use aes_gcm::Aes256Gcm;
 use block_id::BlockId;
-use fs_model::Moment;
+use fs_model::{Command, Moment, Reply};
 use integrity_store::IntegrityStore;
 use integrity_store::local_state::{Known, State, decode, encode};
 use integrity_store::redo_vault::RedoVault;
 use integrity_store::sealed_store::SealedStore;
 use memory_outside::MemoryVault;
 use rand_pcg::Pcg32;
-use script_text::{parse_line, print_reply};
 use seal_api::Sealer;
 use std::alloc::Global;
 use std::test::Fail;
@@ -77,57 +77,76 @@ pub fn rooted<S: BlocksMut + Drop>(alloc: Global, mut store: S) -> Result<S, Fai
     Ok(store)
 }
 
-/// Performs a line and applies its changes.
-fn answer<S: BlocksMut>(
+/// The reply to a command that fits.
+fn replied<S: BlocksMut>(
     alloc: Global,
     blobs: &mut BlobStore<S>,
-    line: &[u8],
-    chance: &mut Pcg32,
-) -> Result<Vec<u8>, Fail>
+    command: &Command,
+) -> Result<Reply, Fail>
     requires { intact_in S.Blocks.meanings S.Blocks.holdings blobs.old.tx }
     ensures { intact_in S.Blocks.meanings S.Blocks.holdings blobs.new.tx }
 {
     let now = Moment::new(100, 5).ok_or("nanos")?;
-    let Ok(command) = parse_line(alloc, line) else {
-        return Err("a line of the language".into());
-    };
-    let reply = match perform(alloc, blobs, &ROOT, now, &command) {
-        Ok(reply) => reply,
-        Err(_) => return Err("a command that failed".into()),
-    };
-    match blobs.tx.commit(alloc, chance) {
-        Ok(()) => {}
-        Err(_) => return Err("changes that weren't applied".into()),
+    if !command.fits() {
+        return Err("a command that fits".into());
     }
-    let mut text = Vec::new(alloc);
-    print_reply(&reply, &mut text)?;
-    Ok(text)
+    match perform(alloc, blobs, &ROOT, now, command) {
+        Ok(reply) => Ok(reply),
+        Err(_) => Err("a command that failed".into()),
+    }
+}
+
+/// The text of the reply to a command.
+fn text_told<S: BlocksMut>(
+    alloc: Global,
+    blobs: &mut BlobStore<S>,
+    command: &Command,
+) -> Result<String, Fail>
+    requires { intact_in S.Blocks.meanings S.Blocks.holdings blobs.old.tx }
+    ensures { intact_in S.Blocks.meanings S.Blocks.holdings blobs.new.tx }
+{
+    let reply = replied(alloc, blobs, command)?;
+    text_of(alloc, &reply)
+}
+
+/// Performs a line and applies its changes.
+fn answer<S: BlocksMut>(
+    alloc: Global,
+    blobs: &mut BlobStore<S>,
+    line: &str,
+    chance: &mut Pcg32,
+) -> Result<String, Fail>
+    requires { intact_in S.Blocks.meanings S.Blocks.holdings blobs.old.tx }
+    ensures { intact_in S.Blocks.meanings S.Blocks.holdings blobs.new.tx }
+{
+    let text = text_told(alloc, blobs, &parsed(alloc, line)?)?;
+    match blobs.tx.commit(alloc, chance) {
+        Ok(()) => Ok(text),
+        Err(_) => Err("changes that weren't applied".into()),
+    }
 }
 
 /// The texts of the replies to these lines, one after another.
 pub fn answer_each<S: BlocksMut>(
     alloc: Global,
     blobs: &mut BlobStore<S>,
-    lines: &[&str],
-) -> Result<Vec<u8>, Fail>
+    lines: &str,
+) -> Result<String, Fail>
     requires { intact_in S.Blocks.meanings S.Blocks.holdings blobs.old.tx }
     ensures { intact_in S.Blocks.meanings S.Blocks.holdings blobs.new.tx }
 {
     let mut chance = Pcg32::new(1, 2);
-    let mut texts = Vec::new(alloc);
-    for line in lines {
-        let text = answer(alloc, blobs, line.as_bytes(), &mut chance)?;
-        texts.extend_from_slice(&text)?;
+    let mut texts = String::new(alloc);
+    for line in lines.split('\n') {
+        if !line.is_empty() {
+            texts.push_str(&answer(alloc, blobs, line, &mut chance)?)?;
+        }
     }
     Ok(texts)
 }
 
 /// The texts of the replies to these lines on a new file system over the store, one after another.
-pub fn answers<S: BlocksMut + Drop>(
-    alloc: Global,
-    store: S,
-    lines: &[&str],
-) -> Result<Vec<u8>, Fail>
+pub fn answers<S: BlocksMut + Drop>(alloc: Global, store: S, lines: &str) -> Result<String, Fail>
     requires intact { S.Blocks.meanings.intact store }
     requires few { IsFew (S.Blocks.holdings.used store) }
 {

@@ -1,5 +1,5 @@
 use Rattle.store_session.specs.store_api.Txs.{tx_meanings}
-use Rattle.tower_paths.proofs.tower.answer_each.Given as goal
+use Rattle.path_tests.proofs.tower.answer_each.Given as goal
 
 abbrev pub invariant-loop-line : goal.invariant-loop-line
 invariant-loop-line g l = (tx_meanings g.S.Blocks.meanings g.S.Blocks.holdings).intact l.blobs.tx
