@@ -1,9 +1,9 @@
 #!/usr/bin/env python3
-"""Sealing and opening of blocks in memory: bench_seal beside python3's cryptography (OpenSSL), in one run.
+"""Sealing and opening of blocks in memory: bench_memory beside python3's cryptography (OpenSSL), in one run.
 
-Build the program first: (cd crates/bench_seal && rt run). The words are sizes of blocks; without any, 16384 and 128.
-For each size five rounds are run, in each of them bench_seal with the key made ready in each call, bench_seal with the
-key made ready once, and OpenSSL with a key that is kept. Times are of the processor in user mode, so that other
+Build the program first: (cd crates/bench_memory && rt run). The words are sizes of blocks; without any, 16384 and 128.
+For each size five rounds are run, in each of them bench_memory with the key made ready in each call, bench_memory with
+the key made ready once, and OpenSSL with a key that is kept. Times are of the processor in user mode, so that other
 programs on the machine matter little. Printed are the medians, the median of the rounds' ratios, and what making the
 key ready costs a call.
 """
@@ -16,7 +16,7 @@ from statistics import median
 from cryptography.hazmat.primitives.ciphers.aead import AESGCM
 
 TOP = os.path.dirname(os.path.dirname(os.path.abspath(__file__)))
-PROGRAM = os.path.join(TOP, "crates", "bench_seal", "out", "bench_seal")
+PROGRAM = os.path.join(TOP, "crates", "bench_memory", "out", "bench_memory")
 ROUNDS = 5
 # OpenSSL is so much faster that it is given this many times the blocks.
 MORE = 8
@@ -31,8 +31,8 @@ def seconds(run):
     return used() - start
 
 
-def ours(count, size, *words):
-    subprocess.run([PROGRAM, str(count), str(size), *words], check=True, stdout=subprocess.DEVNULL)
+def ours(measure, count, size):
+    subprocess.run([PROGRAM, measure, str(count), str(size)], check=True, stdout=subprocess.DEVNULL)
 
 
 def theirs(count, size):
@@ -44,8 +44,8 @@ def theirs(count, size):
 
 def measure(size):
     count = max(1, 40_000_000 // size)
-    rounds = [(seconds(lambda: ours(count, size)),
-               seconds(lambda: ours(count, size, "kept")),
+    rounds = [(seconds(lambda: ours("seal", count, size)),
+               seconds(lambda: ours("seal-kept", count, size)),
                seconds(lambda: theirs(count * MORE, size)) / MORE) for _ in range(ROUNDS)]
     each, kept, other = (median(r[i] for r in rounds) for i in range(3))
     ratio = median(r[2] / r[0] for r in rounds)

@@ -1,7 +1,7 @@
 use Rattle.std.proofs.Common.{◌≡◌, ℕ, List, Some, Vec, Global, ap, sym, ◌∙◌}
 use Rattle.std.specs.Option.{option_map}
-use Rattle.bench_seal.proofs.Opening.{none_some, opens_back}
-use Rattle.bench_seal.proofs.through.Goals as goal
+use Rattle.bench_memory.proofs.Opening.{none_some, opens_back}
+use Rattle.bench_memory.proofs.seal.through.Goals as goal
 
 pub unreachable-requires : goal.unreachable-requires
 unreachable-requires c =

@@ -1,8 +1,4 @@
-//! Seals and opens blocks in memory, for measuring: the words are how many blocks, how many bytes a
-//! block has, and `kept` where one key is made ready for all of them. The answer is one line with a
-//! checksum of the tags.
-#![tactic(auto)]
-
+// Sealing and opening of blocks in memory.
 ghost use Rattle.std.specs.Prelude.{◌≡◌, ◌≤◌, IfOk, length};
 ghost use Rattle.seal_api.specs.Sealing.{max_len};
 
@@ -11,19 +7,18 @@ use aes_gcm::{Aes256Gcm, GcmKey};
 use block_id::Memory;
 use seal_api::Sealer;
 use std::alloc::Global;
-use std::{env, io};
+use std::io;
 
 const KEY: [u8; 32] = [7; 32];
 
 /// The most bytes of a block.
-const MAX_SIZE: usize = 1 << 30;
+const MAX_SIZE: u64 = 1 << 30;
 
-/// How many blocks are sealed, how many bytes each has, and whether one key is made ready for all.
+/// How many blocks are sealed, and how many bytes each has.
 #[derive(Drop)]
 struct Plan {
     count: u64,
     size: usize,
-    kept: bool,
     ghost in_range: { size ≤ max_len },
 }
 
@@ -84,38 +79,22 @@ fn bench_kept(alloc: Global, plan: &Plan) -> Result<u64, Memory> {
     Ok(checksum)
 }
 
-/// What the words say.
-fn plan_of(rt: &HostRuntime) -> io::Result<Option<Plan>> {
-    let mut words = env::args(rt)?;
-    words.next();
-    let (Some(count), Some(size)) = (words.next(), words.next()) else {
-        return Ok(None);
-    };
-    let kept = match words.next() {
-        None => false,
-        Some(word) if word.as_str() == "kept" && words.next().is_none() => true,
-        Some(_) => return Ok(None),
-    };
-    match (count.as_str().parse(), size.as_str().parse()) {
-        (Ok(count), Ok(size)) if size <= MAX_SIZE => Ok(Some(Plan { count, size, kept })),
-        _ => Ok(None),
+/// Seals and opens so many blocks of so many bytes, with one key for all of them if it is kept, and prints a checksum of the tags.
+pub fn measure(rt: &HostRuntime, count: u64, size: u64, is_kept: bool) -> io::Result<()> {
+    if size > MAX_SIZE {
+        return println!(rt; "too long");
     }
-}
-
-fn main(rt: HostRuntime) -> io::Result<()> {
-    let Some(plan) = plan_of(&rt)? else {
-        return println!(rt; "usage: bench_seal COUNT SIZE [kept]");
+    let plan = Plan {
+        count,
+        size: size as usize,
     };
-    let checksum = if plan.kept {
+    let checksum = if is_kept {
         bench_kept(rt.alloc(), &plan)
     } else {
         bench(rt.alloc(), &plan)
     };
-    let Ok(checksum) = checksum else {
-        return println!(rt; "out of memory");
-    };
-    println!(rt;
-        "{} blocks of {} bytes, checksum {checksum:016x}",
-        plan.count, plan.size
-    )
+    match checksum {
+        Ok(checksum) => { println!(rt; "{count} blocks of {size} bytes, checksum {checksum:016x}") }
+        Err(_) => println!(rt; "out of memory"),
+    }
 }

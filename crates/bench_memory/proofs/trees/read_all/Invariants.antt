@@ -1,5 +1,5 @@
 use Rattle.map_store.specs.store_api.Txs.{tx_meanings}
-use Rattle.bench_trees.proofs.read_all.Given as goal
+use Rattle.bench_memory.proofs.trees.read_all.Given as goal
 
 abbrev pub invariant-loop-piece : goal.invariant-loop-piece
 invariant-loop-piece g l = (tx_meanings g.S.Blocks.meanings g.S.Blocks.holdings).intact l.tx

@@ -1,8 +1,4 @@
-//! Works on one tree of blocks in memory, for measuring. The words are how many bytes the tree has, and how many of the steps
-//! are taken: made, read, overwritten at random places, grown by small writes, cut by as much. Each step prints a line, with
-//! how many blocks it changed.
-#![tactic(auto)]
-
+// Work on one tree of blocks in memory.
 ghost use Rattle.std.specs.Prelude.{◌<◌, ◌≤◌, ◌^◌};
 ghost use Rattle.map_store.specs.store_api.Txs.{intact_in};
 
@@ -12,7 +8,7 @@ use map_store::store_api::{Blocks, BlocksMut, Tx};
 use rand_core::Rng;
 use rand_pcg::Pcg32;
 use std::alloc::Global;
-use std::{env, io};
+use std::io;
 use tree_ranges::tree_calls::{new_tree, read_range};
 use tree_ranges::{resize, write_range};
 
@@ -195,15 +191,9 @@ const NAMES: [&str; 5] = [
     "blocks changed by cutting",
 ];
 
-fn main(rt: HostRuntime) -> io::Result<()> {
-    let mut words = env::args(&rt)?;
-    words.next();
-    let (Some(size), Some(steps), None) = (words.next(), words.next(), words.next()) else {
-        return println!(rt; "usage: bench_trees BYTES STEPS");
-    };
-    let (Ok(size), Ok(steps)) = (size.as_str().parse(), steps.as_str().parse()) else {
-        return println!(rt; "no numbers");
-    };
+/// Takes so many of the steps over a tree of so many bytes: made, read, overwritten at random places, grown by small writes, cut
+/// by as much. Each prints a line, with how many blocks it changed.
+pub fn measure(rt: &HostRuntime, size: u64, steps: u64) -> io::Result<()> {
     if size > LONGEST {
         return println!(rt; "too long");
     }

@@ -1,5 +1,5 @@
 use Rattle.std.proofs.Common.{◌≡◌, length}
-use Rattle.bench_seal.proofs.bench.Given as goal
+use Rattle.bench_memory.proofs.seal.bench.Given as goal
 
 abbrev pub invariant-loop-number : goal.invariant-loop-number
 invariant-loop-number l = length l.plain.items ≡ l.plan.size
