@@ -1,6 +1,7 @@
 // One damage of the stored file system for each verdict on a block.
 
-use crate::system::{block_of, file_of, older_file_of, stored_system};
+use crate::stories::{Tale, tell};
+use crate::system::{block_of, older_file_of, stored_system};
 use old_forms::aes_gcm::Aes256Gcm;
 use old_forms::config_file::open_config;
 use outside::FileName;
@@ -9,83 +10,18 @@ use std::alloc::Global;
 use std::test::Fail;
 use test_systems::{Status, System, ask, file, store};
 
-/// The ids of the file `/docs/note`, of client 1 at version 3, and of the root.
-const NOTE: &str = "D357D99CFA853FCECAC04D85D952D812";
-
-const ROOT: &str = "2E0435824AAF8B86DF5ED063B4777541";
-
-/// A session over a file system where this is the file of `/docs/note`, if it stays, meets this verdict.
-fn has_verdict(
-    alloc: Global,
-    system: &mut System,
-    bytes: Option<Vec<u8>>,
-    verdict: &str,
-) -> Result<(), Fail> {
-    store(alloc, system, block_of(NOTE)?, bytes)?;
-    let text = format!(in alloc; "violation {verdict}\nrefused violation\n")?;
-    let lines = "read /docs/note 0 9\nls /\n";
-    ask(alloc, system, lines, &text, Status::Violation)
-}
-
-/// What becomes of the bytes of the file of `/docs/note`.
-#[derive(Clone, Copy)]
-enum Damage {
-    Absent,
-    Cut,
-    FirstBit,
-    LastBit,
-    AsRoot,
-    AsBefore,
-}
-
-fn flip(byte: Option<&mut u8>) {
-    if let Some(byte) = byte {
+/// The bytes of a file without the last one, or with a bit of the first or the last changed.
+fn changed(mut bytes: Vec<u8>, damage: &str) -> Vec<u8> {
+    let last = bytes.len().saturating_sub(1);
+    if damage == "cut" {
+        bytes.truncate(last);
+        return bytes;
+    }
+    let place = if damage == "first-bit" { 0 } else { last };
+    if let Some(byte) = bytes.get_mut(place) {
         *byte ^= 1;
     }
-}
-
-/// The bytes of a file, changed so.
-fn changed(mut bytes: Vec<u8>, damage: Damage) -> Vec<u8> {
-    match damage {
-        Damage::Cut => {
-            bytes.pop();
-        }
-        Damage::FirstBit => flip(bytes.first_mut()),
-        Damage::LastBit => flip(bytes.last_mut()),
-        _ => {}
-    }
     bytes
-}
-
-/// What the file of `/docs/note` becomes, if it stays.
-fn damaged(alloc: Global, damage: Damage) -> Result<Option<Vec<u8>>, Fail> {
-    match damage {
-        Damage::Absent => Ok(None),
-        Damage::AsRoot => Ok(Some(file_of(alloc, ROOT)?)),
-        Damage::AsBefore => Ok(Some(older_file_of(alloc, NOTE)?)),
-        _ => Ok(Some(changed(file_of(alloc, NOTE)?, damage))),
-    }
-}
-
-/// The same of these bytes with this damage.
-fn has_verdict_damaged(alloc: Global, damage: Damage, verdict: &str) -> Result<(), Fail> {
-    let bytes = damaged(alloc, damage)?;
-    has_verdict(alloc, &mut stored_system(alloc)?, bytes, verdict)
-}
-
-/// Each damage of the bytes.
-fn have_verdicts_damaged(alloc: Global) -> Result<(), Fail> {
-    for (damage, verdict) in [
-        (Damage::Absent, "missing"),
-        (Damage::Cut, "bad-length"),
-        (Damage::FirstBit, "bad-prefix"),
-        (Damage::LastBit, "not-opened"),
-        (Damage::AsRoot, "wrong-id 2E0435824AAF8B86DF5ED063B4777541"),
-        (Damage::AsBefore, "old-version 3 2"),
-    ] {
-        has_verdict_damaged(alloc, damage, verdict)?;
-    }
-    Ok(())
 }
 
 /// The key of the file system.
@@ -113,41 +49,78 @@ fn sealed(alloc: Global, key: &[u8; 32], record: &[u8]) -> Result<Vec<u8>, Fail>
     Ok(crafted)
 }
 
-/// The file of `/docs/note` with another byte in its record, sealed under the key of the file system.
-fn sealed_anew(alloc: Global, system: &System, place: usize, value: u8) -> Result<Vec<u8>, Fail> {
+/// The place of a field in a record, and the byte there: `client 2`.
+fn place_and_byte(field: &str) -> Option<(usize, u8)> {
+    let (name, value) = field.split_once(' ')?;
+    let place = match name {
+        "format" => 0,
+        "client" => 18,
+        "version" => 22,
+        "node" => 30,
+        _ => return None,
+    };
+    Some((place, value.parse().ok()?))
+}
+
+/// This file with another byte in its record, sealed under the key of the file system.
+fn sealed_anew(alloc: Global, system: &System, found: &[u8], field: &str) -> Result<Vec<u8>, Fail> {
+    let (place, value) = place_and_byte(field).ok_or("a field of a record and its byte")?;
     let key = key_of(alloc, system)?;
-    let mut record = record_in(alloc, &key, &file_of(alloc, NOTE)?)?;
+    let mut record = record_in(alloc, &key, found)?;
     if let Some(byte) = record.get_mut(place) {
         *byte = value;
     }
     sealed(alloc, &key, &record)
 }
 
-/// The same of the file with this byte at this place of its record.
-fn has_verdict_with(alloc: Global, place: usize, value: u8, verdict: &str) -> Result<(), Fail> {
-    let mut system = stored_system(alloc)?;
-    let bytes = sealed_anew(alloc, &system, place, value)?;
-    has_verdict(alloc, &mut system, Some(bytes), verdict)
+/// What lies in place of the file of `/docs/note`: the root's file, its own from before, or its own with this damage.
+fn damaged(alloc: Global, system: &System, damage: &str) -> Result<Vec<u8>, Fail> {
+    let found = file(alloc, system.vault.files(), block_of("note")?)?;
+    match damage {
+        "root" => file(alloc, system.vault.files(), block_of("root")?),
+        "before" => older_file_of(alloc, "note"),
+        "cut" | "first-bit" | "last-bit" => Ok(changed(found, damage)),
+        _ => sealed_anew(alloc, system, &found, damage),
+    }
 }
 
-/// Each damage of the record. The places are those of the format, the client, the version and the format of the node.
-fn have_verdicts_with(alloc: Global) -> Result<(), Fail> {
-    for (place, value, verdict) in [
-        (0, 2, "bad-record"),
-        (18, 0, "bad-record"),
-        (22, 0, "bad-record"),
-        (18, 2, "foreign-client 2"),
-        (22, 1, "old-version 3 1"),
-        (22, 4, "ahead-version 3 4"),
-        (30, 1, "structure"),
-    ] {
-        has_verdict_with(alloc, place, value, verdict)?;
-    }
-    Ok(())
+/// Stores the file of `/docs/note` with this damage, or removes it.
+fn do_damage(alloc: Global, system: &mut System, damage: &str) -> Result<(), Fail> {
+    let bytes = match damage {
+        "absent" => None,
+        _ => Some(damaged(alloc, system, damage)?),
+    };
+    Ok(store(alloc, system, block_of("note")?, bytes)?)
 }
+
+/// A session over the stored file system where the file of `/docs/note` has this damage meets this verdict: `cut: bad-length`.
+pub fn has_verdict(alloc: Global, tale: &mut Tale, said: &str) -> Result<(), Fail> {
+    let (damage, verdict) = said.split_once(": ").ok_or("a damage and its verdict")?;
+    tale.system = stored_system(alloc, "stored")?;
+    do_damage(alloc, &mut tale.system, damage)?;
+    let text = format!(in alloc; "violation {verdict}\nrefused violation\n")?;
+    let lines = "read /docs/note 0 9\nls /\n";
+    ask(alloc, &mut tale.system, lines, &text, Status::Violation)
+}
+
+const DAMAGES: &str = "# each damage of the file's bytes
+> !damaged absent: missing
+> !damaged cut: bad-length
+> !damaged first-bit: bad-prefix
+> !damaged last-bit: not-opened
+> !damaged root: wrong-id 2E0435824AAF8B86DF5ED063B4777541
+> !damaged before: old-version 3 2
+# each damage of the record that is sealed in it, by client 1 at version 3
+> !damaged format 2: bad-record
+> !damaged client 0: bad-record
+> !damaged version 0: bad-record
+> !damaged client 2: foreign-client 2
+> !damaged version 1: old-version 3 1
+> !damaged version 4: ahead-version 3 4
+> !damaged node 1: structure
+";
 
 #[test]
 fn each_damage_has_its_verdict(rt: HostRuntime) -> Result<(), Fail> {
-    have_verdicts_damaged(rt.alloc())?;
-    have_verdicts_with(rt.alloc())
+    tell(&rt, DAMAGES)
 }

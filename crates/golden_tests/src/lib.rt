@@ -1,17 +1,23 @@
-//! A file system that an earlier program made (`bench/golden.py`): it opens, it shows what was written into it, what waits
-//! in its record is put, and each damage of a block has its verdict. New ones in the older forms are changed and migrated.
-//! There is nothing here but tests.
+//! File systems as they lie in folders. One that an earlier program made (`bench/golden.py`) opens, shows what was written into it,
+//! puts what waits in its record, and each damage of a block has its verdict; new ones in the older forms are changed and
+//! migrated; and one is made and used by the program's own run over real folders. There is nothing here but tests.
 #![tactic(auto)]
 
 #[cfg(test)]
 mod damage;
 #[cfg(test)]
-mod made;
-#[cfg(test)]
 mod migrating;
+#[cfg(test)]
+mod older;
 #[cfg(test)]
 mod opening;
 #[cfg(test)]
+mod orders;
+#[cfg(test)]
+mod program;
+#[cfg(test)]
 mod stored;
+#[cfg(test)]
+mod stories;
 #[cfg(test)]
 mod system;

@@ -1,11 +1,35 @@
 // What the stored file system shows. Its moments are those of the sessions that made it.
 
-use crate::system::{stored_record, stored_system, waiting_system};
-use std::alloc::{AllocError, Global};
+use crate::stories::tell;
+use std::alloc::Global;
 use std::test::Fail;
-use test_systems::{Status, System, ask, count_blocks, play};
+use test_systems::{Status, System, ask};
 
-const INFO: &str = "> info
+/// The answer to a read of the whole report: each byte is its place modulo 251 but for two that were written later.
+fn report(alloc: Global) -> Result<String, Fail> {
+    let mut bytes = Vec::new(alloc);
+    for place in 0..1900u16 {
+        bytes.push(match place {
+            1000 => 0xff,
+            1001 => 0xee,
+            _ => (place % 251) as u8,
+        })?;
+    }
+    let digits = hex::encode(alloc, bytes.as_slice())?;
+    Ok(format!(in alloc; "data {digits}\n")?)
+}
+
+/// A read of the whole report gives it.
+pub fn shows_report(alloc: Global, system: &mut System) -> Result<(), Fail> {
+    let text = report(alloc)?;
+    let lines = "read /docs/report 0 2000\n";
+    ask(alloc, system, lines, &text, Status::Done)
+}
+
+const SHOWN: &str = "# sessions that only look show what was written, and leave the record as it was
+> !stored
+> !note
+> info
 pw
 =
 filesystem 299B7F00ACD74916C2D7097FB2CE040E
@@ -13,10 +37,7 @@ root 2E0435824AAF8B86DF5ED063B4777541
 cipher aes-256-gcm
 blocksize 256
 scrypt 16 8 1
-";
-
-/// Each line in a session of its own.
-const LOOKS: &str = "> shell
+> shell
 pw
 ls /
 =
@@ -118,40 +139,9 @@ pw
 stat /old
 =
 error no-entry
-";
-
-/// The answer to a read of the whole report: each byte is its place modulo 251 but for two that were written later.
-fn report(alloc: Global) -> Result<String, AllocError> {
-    let mut bytes = Vec::new(alloc);
-    for place in 0..1900u16 {
-        bytes.push(match place {
-            1000 => 0xff,
-            1001 => 0xee,
-            _ => (place % 251) as u8,
-        })?;
-    }
-    let digits = hex::encode(alloc, bytes.as_slice())?;
-    format!(in alloc; "data {digits}\n")
-}
-
-fn report_is_shown(alloc: Global, system: &mut System) -> Result<(), Fail> {
-    let text = report(alloc)?;
-    ask(
-        alloc,
-        system,
-        "read /docs/report 0 2000\n",
-        &text,
-        Status::Done,
-    )
-}
-
-/// Whether the record is as it was stored.
-fn has_stored_record(alloc: Global, system: &System) -> Result<bool, Fail> {
-    let record = stored_record(alloc)?;
-    Ok(system.keeper.kept() == Some(record.as_slice()))
-}
-
-const CHANGE: &str = "> shell
+> !report
+> !keeps-noted
+> shell
 pw
 mkdir /docs/deep/new
 rm /docs/report
@@ -169,20 +159,10 @@ d new
 list 2
 d deep
 f note
-";
-
-/// Sessions that only look save nothing: the record stays as it was, in the older form.
-#[test]
-fn opens_and_shows_what_was_written(rt: HostRuntime) -> Result<(), Fail> {
-    let mut system = stored_system(rt.alloc())?;
-    play(rt.alloc(), &mut system, INFO)?;
-    play(rt.alloc(), &mut system, LOOKS)?;
-    report_is_shown(rt.alloc(), &mut system)?;
-    assert!(rt; has_stored_record(rt.alloc(), &system)?);
-    play(rt.alloc(), &mut system, CHANGE)
-}
-
-const WAITED: &str = "> shell
+# what waits is put: a file was made, so there is one block more, and the newer record knows 30 ids
+> !waiting
+> !blocks 24
+> shell
 pw
 ls /
 ls /docs
@@ -204,16 +184,12 @@ l link
 data 6c617465
 link ../docs/note
 stat l 777 0 0 12 1795917643.330841469 1795917643.330841469 1795917643.718478323
+> !blocks 25
+> !keeps 871
 ";
 
-/// A file was made, so there is one block more. The record knows 30 ids then, its list is empty, and its form is the newer: 121
-/// bytes and 25 each.
+/// The newer form of the record has 121 bytes and 25 for each id.
 #[test]
-fn puts_what_waits(rt: HostRuntime) -> Result<(), Fail> {
-    let mut system = waiting_system(rt.alloc())?;
-    assert!(rt; count_blocks(&system.vault) == 24);
-    play(rt.alloc(), &mut system, WAITED)?;
-    assert!(rt; count_blocks(&system.vault) == 25);
-    assert!(rt; system.keeper.kept().unwrap_or(&[]).len() == 871);
-    Ok(())
+fn opens_and_shows_what_was_written(rt: HostRuntime) -> Result<(), Fail> {
+    tell(&rt, SHOWN)
 }

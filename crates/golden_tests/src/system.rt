@@ -6,87 +6,70 @@ use old_forms::memory_outside::{MemoryKeeper, MemoryVault};
 use outside::{Change, FileName, Pending};
 use std::alloc::Global;
 use std::test::Fail;
-use test_systems::System;
+use test_systems::{System, file};
 
-/// The file of the block whose id has these digits.
-pub fn block_of(digits: &str) -> Result<FileName, Fail> {
+/// The file of the block that has these digits, or this name: the root of the stored file system and its file `/docs/note`; the
+/// root of a new one, and its child the first that a line made, where the random bytes are zeros.
+pub fn block_of(name: &str) -> Result<FileName, Fail> {
+    let digits = match name {
+        "root" => "2E0435824AAF8B86DF5ED063B4777541",
+        "note" => "D357D99CFA853FCECAC04D85D952D812",
+        "new-root" => "00000000000000000000000000000001",
+        "new-child" => "76B8E0ADA0F13D90405D6AE55386BD28",
+        digits => digits,
+    };
     match BlockId::from_name(digits.as_bytes()) {
         Some(id) => Ok(FileName::Block(id)),
         None => Err(Fail::new("these digits are no id")),
     }
 }
 
-/// The stored blocks: in each line the digits of an id, a blank, and the digits of the file.
-fn blocks() -> &'static str {
-    BLOCKS
-}
-
-fn stored_file(alloc: Global, name: FileName, digits: &str) -> Result<Pending, Fail> {
-    let bytes = hex::decode(alloc, digits)?;
-    Ok(Pending {
-        name,
-        change: Change::Bytes(bytes),
-    })
-}
-
-fn stored_block(alloc: Global, line: &str) -> Result<Pending, Fail> {
-    let (id, digits) = line.split_once(' ').ok_or("an id and its file")?;
-    stored_file(alloc, block_of(id)?, digits)
-}
-
-fn stored_files(alloc: Global) -> Result<Vec<Pending>, Fail> {
-    let mut files = Vec::new(alloc);
-    files.push(stored_file(alloc, FileName::Config, CONFIG)?)?;
-    for line in blocks().split('\n') {
-        files.push(stored_block(alloc, line)?)?;
-    }
-    Ok(files)
-}
-
-/// The stored files and this record.
-fn system_with(alloc: Global, record: &str) -> Result<System, Fail> {
-    let record = hex::decode(alloc, record)?;
+/// These files and this record.
+pub fn system_of(alloc: Global, files: Vec<Pending>, record: Vec<u8>) -> System {
     let mut vault = MemoryVault::new(alloc);
-    vault.set_files(stored_files(alloc)?);
-    Ok(System {
+    vault.set_files(files);
+    System {
         vault,
         keeper: MemoryKeeper::new(alloc, Some(record), Vec::new(alloc)),
-    })
-}
-
-/// The record that was stored after the second session.
-pub fn stored_record(alloc: Global) -> Result<Vec<u8>, Fail> {
-    Ok(hex::decode(alloc, RECORD)?)
-}
-
-/// The stored files and that record.
-pub fn stored_system(alloc: Global) -> Result<System, Fail> {
-    system_with(alloc, RECORD)
-}
-
-/// The stored files and the record of the third session.
-pub fn waiting_system(alloc: Global) -> Result<System, Fail> {
-    system_with(alloc, WAITING)
-}
-
-/// The file of this block in these lines.
-fn listed(alloc: Global, lines: &str, id: &str) -> Result<Vec<u8>, Fail> {
-    for line in lines.split('\n') {
-        if let Some((name, digits)) = line.split_once(' ') {
-            if name == id {
-                return Ok(hex::decode(alloc, digits)?);
-            }
-        }
     }
-    Err(Fail::new("no such block"))
 }
 
-/// The file of a block after the second session.
-pub fn file_of(alloc: Global, id: &str) -> Result<Vec<u8>, Fail> {
-    listed(alloc, blocks(), id)
+/// Adds a file of these digits.
+fn add_file(
+    alloc: Global,
+    files: &mut Vec<Pending>,
+    name: FileName,
+    digits: &str,
+) -> Result<(), Fail> {
+    let bytes = hex::decode(alloc, digits)?;
+    files.push(Pending {
+        name,
+        change: Change::Bytes(bytes),
+    })?;
+    Ok(())
+}
+
+/// Adds the files of these lines: in each the digits of an id, a blank, and the digits of the file.
+fn add_blocks(alloc: Global, files: &mut Vec<Pending>, lines: &str) -> Result<(), Fail> {
+    for line in lines.split('\n') {
+        let (id, digits) = line.split_once(' ').ok_or("an id and its file")?;
+        add_file(alloc, files, block_of(id)?, digits)?;
+    }
+    Ok(())
+}
+
+/// The stored files and the record that was stored after the second session, or after the third, when some of its files waited.
+pub fn stored_system(alloc: Global, record: &str) -> Result<System, Fail> {
+    let digits = if record == "waiting" { WAITING } else { RECORD };
+    let mut files = Vec::new(alloc);
+    add_file(alloc, &mut files, FileName::Config, CONFIG)?;
+    add_blocks(alloc, &mut files, BLOCKS)?;
+    Ok(system_of(alloc, files, hex::decode(alloc, digits)?))
 }
 
 /// The file of a block after the first session.
-pub fn older_file_of(alloc: Global, id: &str) -> Result<Vec<u8>, Fail> {
-    listed(alloc, OLDER, id)
+pub fn older_file_of(alloc: Global, name: &str) -> Result<Vec<u8>, Fail> {
+    let mut files = Vec::new(alloc);
+    add_blocks(alloc, &mut files, OLDER)?;
+    file(alloc, &files, block_of(name)?)
 }
