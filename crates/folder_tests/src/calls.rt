@@ -1,57 +1,99 @@
-// The calls of a run on its block folder and its record, and whether they answer as a step says.
-use crate::steps::Step;
+// The calls on any block directory and any record, and whether they answer as an order says.
+use crate::stories::Order;
+use block_id::BlockId;
 use outside::{FileName, GetFail, Keeper, Vault};
 use std::alloc::Global;
 
-/// Whether a get of so many bytes answers these.
-fn gets<V: Vault>(alloc: Global, vault: &mut V, name: &FileName, max: usize, want: &str) -> bool {
-    match vault.get(alloc, name, max) {
-        Ok(Some(bytes)) => bytes.as_slice() == want.as_bytes(),
-        _ => false,
+/// The file that a story names: the configuration, the block 1, or one of sixteen equal bytes.
+pub fn file_of(name: &str) -> Option<FileName> {
+    let id = match name {
+        "config" => return Some(FileName::Config),
+        "one" => [0, 0, 0, 0, 0, 0, 0, 0, 0, 0, 0, 0, 0, 0, 0, 1],
+        "zeros" => [0; 16],
+        "sevens" => [7; 16],
+        "tens" => [0x10; 16],
+        _ => return None,
+    };
+    Some(FileName::Block(BlockId(id)))
+}
+
+/// How many bytes a get asks for, 9 where it isn't said, and of which file: `4 one`.
+fn asked(subject: &str) -> Option<(usize, FileName)> {
+    match subject.split_once(' ') {
+        Some((max, name)) => Some((max.parse().ok()?, file_of(name)?)),
+        None => Some((9, file_of(subject)?)),
     }
 }
 
-fn misses<V: Vault>(alloc: Global, vault: &mut V, name: &FileName) -> bool {
-    matches!(vault.get(alloc, name, 9), Ok(None))
+/// What a get or a load answers.
+fn shown(came: &Result<Option<Vec<u8>>, GetFail>) -> &[u8] {
+    match came {
+        Ok(Some(bytes)) => bytes.as_slice(),
+        Ok(None) => b"(none)",
+        Err(GetFail::Failed) => b"(fails)",
+        Err(GetFail::Memory) => b"(no memory)",
+    }
 }
 
-fn fails_to_get<V: Vault>(alloc: Global, vault: &mut V, name: &FileName) -> bool {
-    matches!(vault.get(alloc, name, 9), Err(GetFail::Failed))
+/// Whether a put or a removal goes well, or fails where the order says that.
+fn is_change(came: Result<(), GetFail>, order: &Order<'_>) -> bool {
+    match came {
+        Ok(()) => !order.name.starts_with("fails"),
+        Err(GetFail::Failed) => order.name.starts_with("fails"),
+        Err(GetFail::Memory) => false,
+    }
 }
 
-/// Why these bytes aren't put, if they aren't.
-fn put<V: Vault>(alloc: Global, vault: &mut V, name: &FileName, bytes: &str) -> Option<GetFail> {
-    vault.put(alloc, name, bytes.as_bytes()).err()
+fn get<V: Vault>(
+    alloc: Global,
+    vault: &mut V,
+    name: &FileName,
+    max: usize,
+) -> Result<Option<Vec<u8>>, GetFail> {
+    vault.get(alloc, name, max)
 }
 
-/// Why the file isn't removed, if it isn't.
-fn delete<V: Vault>(alloc: Global, vault: &mut V, name: &FileName) -> Option<GetFail> {
-    vault.remove(alloc, name).err()
+fn put<V: Vault>(
+    alloc: Global,
+    vault: &mut V,
+    name: &FileName,
+    bytes: &str,
+) -> Result<(), GetFail> {
+    vault.put(alloc, name, bytes.as_bytes())
 }
 
-fn is_fault(failure: Option<GetFail>) -> bool {
-    matches!(failure, Some(GetFail::Failed))
+fn remove<V: Vault>(alloc: Global, vault: &mut V, name: &FileName) -> Result<(), GetFail> {
+    vault.remove(alloc, name)
 }
 
 /// Whether every call on this file fails.
-fn fails<V: Vault>(alloc: Global, vault: &mut V, name: &FileName) -> bool {
-    fails_to_get(alloc, vault, name)
-        && is_fault(put(alloc, vault, name, "bytes"))
-        && is_fault(delete(alloc, vault, name))
+fn fails<V: Vault>(alloc: Global, vault: &mut V, name: &FileName, order: &Order<'_>) -> bool {
+    shown(&get(alloc, vault, name, 9)) == b"(fails)".as_slice()
+        && is_change(put(alloc, vault, name, "bytes"), order)
+        && is_change(remove(alloc, vault, name), order)
 }
 
-/// Whether a step on the block folder comes out as it says, where it is one.
-pub fn on_vault<V: Vault>(alloc: Global, vault: &mut V, step: Step<'_>) -> Option<bool> {
-    match step {
-        Step::Puts(name, bytes) => Some(put(alloc, vault, &name, bytes).is_none()),
-        Step::Gets(name, max, want) => Some(gets(alloc, vault, &name, max, want)),
-        Step::Misses(name) => Some(misses(alloc, vault, &name)),
-        Step::Deletes(name) => Some(delete(alloc, vault, &name).is_none()),
-        Step::FailsToPut(name, bytes) => Some(is_fault(put(alloc, vault, &name, bytes))),
-        Step::FailsToGet(name) => Some(fails_to_get(alloc, vault, &name)),
-        Step::Fails(name) => Some(fails(alloc, vault, &name)),
+/// Whether an order on a block directory comes out, where it is one: `gets 4 one: shor`, `gets one: (none)` where there is
+/// no such file, `gets one: (fails)`; `puts one: short`, `fails-to-put one: short`; `deletes one`, also where there is no such
+/// file, `fails-to-delete one`; or `fails one`, all three.
+pub fn on_vault<V: Vault>(alloc: Global, vault: &mut V, order: &Order<'_>) -> Option<bool> {
+    let (max, name) = asked(order.subject)?;
+    match order.name {
+        "gets" => Some(shown(&get(alloc, vault, &name, max)) == order.text.as_bytes()),
+        "puts" | "fails-to-put" => Some(is_change(put(alloc, vault, &name, order.text), order)),
+        "deletes" | "fails-to-delete" => Some(is_change(remove(alloc, vault, &name), order)),
+        "fails" => Some(fails(alloc, vault, &name, order)),
         _ => None,
     }
+}
+
+fn load<K: Keeper>(alloc: Global, keeper: &mut K) -> Result<Option<Vec<u8>>, GetFail> {
+    keeper.load(alloc)
+}
+
+/// Whether there is memory for a record of so many bytes.
+fn takes_memory<K: Keeper>(alloc: Global, keeper: &mut K, len: usize) -> bool {
+    keeper.prepare(alloc, len).is_ok()
 }
 
 /// Whether a record is saved, where there is memory for it.
@@ -60,30 +102,14 @@ fn save<K: Keeper>(alloc: Global, keeper: &mut K, text: &str) -> Option<bool> {
     Some(keeper.save(text.as_bytes()).is_ok())
 }
 
-/// Whether a load answers this record.
-fn loads<K: Keeper>(alloc: Global, keeper: &mut K, want: &str) -> bool {
-    match keeper.load(alloc) {
-        Ok(Some(bytes)) => bytes.as_slice() == want.as_bytes(),
-        _ => false,
-    }
-}
-
-fn loads_none<K: Keeper>(alloc: Global, keeper: &mut K) -> bool {
-    matches!(keeper.load(alloc), Ok(None))
-}
-
-fn fails_to_load<K: Keeper>(alloc: Global, keeper: &mut K) -> bool {
-    matches!(keeper.load(alloc), Err(GetFail::Failed))
-}
-
-/// Whether a step on the record comes out as it says.
-pub fn on_keeper<K: Keeper>(alloc: Global, keeper: &mut K, step: Step<'_>) -> bool {
-    match step {
-        Step::Saves(text) => matches!(save(alloc, keeper, text), Some(true)),
-        Step::FailsToSave(text) => matches!(save(alloc, keeper, text), Some(false)),
-        Step::Loads(want) => loads(alloc, keeper, want),
-        Step::LoadsNone => loads_none(alloc, keeper),
-        Step::FailsToLoad => fails_to_load(alloc, keeper),
-        _ => false,
+/// Whether an order on a record comes out, where it is one: `loads: record`, `loads: (none)` where nothing is kept,
+/// `loads: (fails)`; `saves: record`, `fails-to-save: record`, for which there is memory; `takes-memory 3`.
+pub fn on_keeper<K: Keeper>(alloc: Global, keeper: &mut K, order: &Order<'_>) -> Option<bool> {
+    match order.name {
+        "loads" => Some(shown(&load(alloc, keeper)) == order.text.as_bytes()),
+        "saves" => save(alloc, keeper, order.text),
+        "fails-to-save" => Some(!save(alloc, keeper, order.text)?),
+        "takes-memory" => Some(takes_memory(alloc, keeper, order.subject.parse().ok()?)),
+        _ => None,
     }
 }

@@ -6,16 +6,10 @@ use std::fs::{File, Files, Metadata, OpenFile, OpenOptions};
 use std::io::{self, Empty, ErrorKind, Read, Seek, SeekFrom, Write};
 
 /// The system with a number of flushes that succeed; after them each fails.
-#[derive(Clone, Copy)]
+#[derive(Drop)]
 pub struct CountedFlushes<'a> {
-    host: HostRuntime,
-    left: &'a Cell<u32>,
-}
-
-impl<'a> CountedFlushes<'a> {
-    pub fn new(host: HostRuntime, left: &'a Cell<u32>) -> CountedFlushes<'a> {
-        CountedFlushes { host, left }
-    }
+    pub host: HostRuntime,
+    pub left: &'a Cell<u32>,
 }
 
 /// A file of that system.

@@ -1,166 +1,92 @@
-// The record in a real folder: what its file holds, what fails, and which run has it.
-use crate::counted_flushes::CountedFlushes;
-use crate::runs::wrong_step;
-use crate::steps::Step::{
-    Allows, Begin, BeginUnread, End, FailsToLoad, FailsToSave, Holds, Lacks, Links, Loads,
-    LoadsNone, Makes, NoneLeft, Removes, Renames, Saves, Second, Writes,
-};
-use crate::steps::Trial;
-use std::cell::Cell;
+// The record in a real folder: what its file holds, what fails, which run has it, and that its name is flushed.
+use crate::stories::tell;
+use std::test::Fail;
 
-const RECORD_PATH: &str = "s/cryfs.localstate";
-
-const LOCK_PATH: &str = "s/cryfs.lock";
-
-/// What a stopped run leaves beside the record.
-const BESIDE: &str = "s/cryfs.localstate.0000000000000001.new";
-
-const RECORDS: Trial<'static> = Trial {
-    name: "",
-    blocks: "b",
-    records: ["s", "s"],
-    steps: &[],
-};
-
-const TRIALS: [Trial<'static>; 7] = [
-    Trial {
-        name: "keeps_what_was_saved_last",
-        steps: &[
-            Begin,
-            Lacks("s"),
-            LoadsNone,
-            Saves("a long record"),
-            Loads("a long record"),
-            Writes(BESIDE, "what a failed save left of another"),
-            Saves("short"),
-            Holds(RECORD_PATH, "short"),
-            Lacks(BESIDE),
-        ],
-        ..RECORDS
-    },
-    // The second began with another record than the first saved, so it fails to load when the first has ended. One that
-    // begins later has it.
-    Trial {
-        name: "serves_one_run_at_a_time",
-        steps: &[
-            Begin,
-            Saves("first"),
-            Second,
-            FailsToLoad,
-            FailsToSave("record"),
-            End,
-            FailsToLoad,
-            Begin,
-            Loads("first"),
-        ],
-        ..RECORDS
-    },
-    Trial {
-        name: "fails_where_something_else_lies",
-        steps: &[
-            Makes(RECORD_PATH),
-            Writes("s/cryfs.localstate/inner", ""),
-            Begin,
-            FailsToLoad,
-            FailsToSave("record"),
-        ],
-        ..RECORDS
-    },
-    Trial {
-        name: "fails_at_a_device",
-        steps: &[
-            Makes("s"),
-            Links(RECORD_PATH, "/dev/null"),
-            Begin,
-            FailsToLoad,
-        ],
-        ..RECORDS
-    },
-    // A record that counts as not there is never given back as none.
-    Trial {
-        name: "looks_at_no_record_where_none_is_used",
-        steps: &[
-            BeginUnread,
-            Lacks("s"),
-            LoadsNone,
-            Saves("record"),
-            BeginUnread,
-            FailsToLoad,
-        ],
-        ..RECORDS
-    },
-    // Its drive was taken away in mid-session, and the record stays as it was there. After a save that failed no load knows
-    // what is kept, till one is ok.
-    Trial {
-        name: "saves_into_no_other_folder_at_its_path",
-        steps: &[
-            Begin,
-            Saves("record"),
-            Renames("s", "away"),
-            FailsToLoad,
-            FailsToSave("record"),
-            Lacks("s"),
-            Makes("s"),
-            FailsToLoad,
-            FailsToSave("record"),
-            Lacks(RECORD_PATH),
-            Lacks(LOCK_PATH),
-            Removes("s"),
-            Renames("away", "s"),
-            Holds(RECORD_PATH, "record"),
-            FailsToLoad,
-            Saves("later"),
-            Loads("later"),
-        ],
-        ..RECORDS
-    },
-    // A load makes nothing, and what another run made since isn't used.
-    Trial {
-        name: "makes_its_folder_by_a_save_alone",
-        steps: &[
-            Begin,
-            LoadsNone,
-            Lacks("s"),
-            Makes("s"),
-            FailsToLoad,
-            FailsToSave("record"),
-            Lacks(RECORD_PATH),
-            Lacks(LOCK_PATH),
-        ],
-        ..RECORDS
-    },
-];
-
-/// The run that saved it may have been stopped before its name was flushed.
-const FLUSHES: Trial<'static> = Trial {
-    name: "flushes_a_record_before_it_is_loaded",
-    steps: &[
-        Makes("s"),
-        Begin,
-        Allows(0),
-        LoadsNone,
-        Writes(RECORD_PATH, "record"),
-        Begin,
-        FailsToLoad,
-        Allows(1),
-        Loads("record"),
-        NoneLeft,
-    ],
-    ..RECORDS
-};
+/// Of two runs at a time the second began with another record than the first saved, so it fails to load when the first has
+/// ended; one that begins later has it. A record that counts as not there is never given back as none. One whose drive is
+/// taken away stays as it was there, and after a save that failed no load knows what is kept, till one is ok. A load makes
+/// nothing, and what another run made since isn't used. A run that saved a record may have been stopped before its name was
+/// flushed.
+const RECORDS: &str = "# keeps what was saved last, whatever a stopped run left beside it
+begin
+lacks s
+loads: (none)
+saves: a long record
+loads: a long record
+writes s/cryfs.localstate.0000000000000001.new: what a failed save left of another
+saves: short
+holds s/cryfs.localstate: short
+lacks s/cryfs.localstate.0000000000000001.new
+# serves one run at a time
+begin
+saves: first
+second
+loads: (fails)
+fails-to-save: record
+end
+loads: (fails)
+begin
+loads: first
+# fails where something else lies
+makes s/cryfs.localstate
+writes s/cryfs.localstate/inner:
+begin
+loads: (fails)
+fails-to-save: record
+# fails at a device
+makes s
+links s/cryfs.localstate: /dev/null
+begin
+loads: (fails)
+# looks at no record where none is used
+begin-unread
+lacks s
+loads: (none)
+saves: record
+begin-unread
+loads: (fails)
+# saves into no other folder at its path, where its drive was taken away in mid-session
+begin
+saves: record
+renames s: away
+loads: (fails)
+fails-to-save: record
+lacks s
+makes s
+loads: (fails)
+fails-to-save: record
+lacks s/cryfs.localstate
+lacks s/cryfs.lock
+removes s
+renames away: s
+holds s/cryfs.localstate: record
+loads: (fails)
+saves: later
+loads: later
+# makes its folder by a save alone
+begin
+loads: (none)
+lacks s
+makes s
+loads: (fails)
+fails-to-save: record
+lacks s/cryfs.localstate
+lacks s/cryfs.lock
+# flushes a record before it is loaded
+allows 0
+makes s
+begin
+allows 0
+loads: (none)
+writes s/cryfs.localstate: record
+begin
+loads: (fails)
+allows 1
+loads: record
+none-left
+";
 
 #[test]
-fn keeps_records(rt: HostRuntime) {
-    let left = Cell::new(0);
-    for trial in &TRIALS {
-        let wrong = wrong_step(&rt, rt, &left, trial);
-        assert_eq!(rt; wrong, None, "{}", trial.name);
-    }
-}
-
-#[test]
-fn flushes_a_record_before_it_is_loaded(rt: HostRuntime) {
-    let left = Cell::new(0);
-    let host = CountedFlushes::new(rt, &left);
-    assert_eq!(rt; wrong_step(&rt, host, &left, &FLUSHES), None);
+fn records_in_folders(rt: HostRuntime) -> Result<(), Fail> {
+    tell(&rt, "runs", RECORDS)
 }

@@ -1,214 +1,169 @@
-// Two runs over the folders of a trial, whose turns its steps are.
+// Two runs over a block folder and their records, whose turns a story is.
 use crate::calls::{on_keeper, on_vault};
-use crate::files::{fresh_folder, on_files};
-use crate::steps::{Step, Trial};
+use crate::counted_flushes::CountedFlushes;
+use crate::files::on_files;
+use crate::places::{Places, make_places, remove_places};
+use crate::stories::{Order, Stage, play};
 use call_log::CallLog;
 use outside::Memory;
-use real_folders::{FolderKeeper, FolderRun, FolderVault, Lock};
+use real_folders::{FolderKeeper, FolderRun, FolderVault};
 use std::alloc::Global;
 use std::cell::Cell;
-use std::fs::{self, Files};
-use std::path::PathBuf;
+use std::test::Fail;
 
-/// Where a run's record lies, and what its block folder and its record share.
+/// What the block folder and the record of each run share, and how many flushes succeed from here on.
 #[derive(Drop)]
-struct Place {
-    record: PathBuf,
-    run: FolderRun,
+struct Shared {
+    first: FolderRun,
+    second: FolderRun,
+    left: Cell<u32>,
 }
 
-/// The folders of a trial, which its runs use one after another.
-#[derive(Drop)]
-struct Places {
-    folder: PathBuf,
-    blocks: PathBuf,
-    first: Place,
-    second: Place,
-}
-
-fn make_place(rt: &HostRuntime, folder: &PathBuf, record: &str, number: u64) -> Option<Place> {
-    Some(Place {
-        record: folder.join(rt.alloc(), record).ok()?,
-        run: FolderRun::new(rt.alloc(), number).ok()?,
-    })
-}
-
-fn make_places(rt: &HostRuntime, trial: &Trial<'_>) -> Option<Places> {
-    let folder = fresh_folder(rt, trial.name).ok()?;
-    let [first, second] = trial.records;
-    Some(Places {
-        blocks: folder.join(rt.alloc(), trial.blocks).ok()?,
-        first: make_place(rt, &folder, first, 1)?,
-        second: make_place(rt, &folder, second, 2)?,
-        folder,
+fn new_shared(alloc: Global) -> Result<Shared, Memory> {
+    Ok(Shared {
+        first: FolderRun::new(alloc, 1)?,
+        second: FolderRun::new(alloc, 2)?,
+        left: Cell::new(u32::MAX),
     })
 }
 
 /// A run that has begun.
 #[derive(Drop)]
-struct Begun<'a, R: Files> {
-    vault: FolderVault<'a, R>,
-    keeper: FolderKeeper<'a, R>,
+struct Begun<'a> {
+    vault: FolderVault<'a, CountedFlushes<'a>>,
+    keeper: FolderKeeper<'a, CountedFlushes<'a>>,
 }
 
-/// A trial's runs, those that have begun, and whose turn it is.
+/// The runs of a story that have begun, and whose turn it is.
 #[derive(Drop)]
-struct Turns<'a, R: Files> {
-    host: R,
+struct Turns<'a> {
+    rt: HostRuntime,
     places: &'a Places,
-    first: Option<Begun<'a, R>>,
-    second: Option<Begun<'a, R>>,
+    shared: &'a Shared,
+    first: Option<Begun<'a>>,
+    second: Option<Begun<'a>>,
     is_second: bool,
 }
 
-/// A run over these blocks and the record at this place, which it reads, or doesn't look at.
-fn make_begun<'a, R: Files + Copy + Drop>(
-    alloc: Global,
-    host: R,
-    blocks: &'a str,
-    place: &'a Place,
+/// The record at this place, which the run reads, or doesn't look at.
+fn make_keeper<'a>(
+    rt: HostRuntime,
+    record: &str,
+    run: &'a FolderRun,
+    left: &'a Cell<u32>,
     reads: bool,
-) -> Result<Begun<'a, R>, Memory>
-where
-    R::File: Lock,
-{
-    let record = place.record.as_str();
-    let run = &place.run;
-    let keeper = if reads {
-        FolderKeeper::new(alloc, host, record, run, CallLog::new())?
+) -> Result<FolderKeeper<'a, CountedFlushes<'a>>, Memory> {
+    let host = CountedFlushes { host: rt, left };
+    if reads {
+        FolderKeeper::new(rt.alloc(), host, record, run, CallLog::new())
     } else {
-        FolderKeeper::unread(alloc, host, record, run, CallLog::new())?
-    };
-    let vault = FolderVault::new(host, blocks, run, CallLog::new());
-    Ok(Begun { vault, keeper })
+        FolderKeeper::unread(rt.alloc(), host, record, run, CallLog::new())
+    }
 }
 
-/// Whether a call of this run answers as the step says.
-fn calls<R: Files + Copy + Drop>(
-    alloc: Global,
-    run: &mut Option<Begun<'_, R>>,
-    step: Step<'_>,
-) -> bool
-where
-    R::File: Lock,
-{
+/// A run over the story's blocks and the record at this place.
+fn make_begun<'a>(
+    turns: &Turns<'a>,
+    record: &str,
+    run: &'a FolderRun,
+    reads: bool,
+) -> Option<Begun<'a>> {
+    let left = &turns.shared.left;
+    let keeper = make_keeper(turns.rt, record, run, left, reads).ok()?;
+    let host = CountedFlushes {
+        host: turns.rt,
+        left,
+    };
+    let blocks = turns.places.first.as_str();
+    Some(Begun {
+        vault: FolderVault::new(host, blocks, run, CallLog::new()),
+        keeper,
+    })
+}
+
+/// Ends a run that has begun, and has that one begin in its place, or none.
+fn set<'a>(place: &mut Option<Begun<'a>>, run: Option<Begun<'a>>) {
+    *place = run;
+}
+
+/// Whether both runs begin, after those before have ended.
+fn begin(turns: &mut Turns<'_>, reads: bool) -> bool {
+    let (places, shared) = (turns.places, turns.shared);
+    set(&mut turns.first, None);
+    set(&mut turns.second, None);
+    let first = make_begun(turns, places.second.as_str(), &shared.first, reads);
+    set(&mut turns.first, first);
+    let second = make_begun(turns, places.third.as_str(), &shared.second, reads);
+    set(&mut turns.second, second);
+    turns.is_second = false;
+    turns.first.is_some() && turns.second.is_some()
+}
+
+/// Whether a call of this run answers as the order says, where it is one.
+fn on_run(alloc: Global, run: &mut Option<Begun<'_>>, order: &Order<'_>) -> Option<bool> {
     match run {
-        Some(run) => match on_vault(alloc, &mut run.vault, step) {
-            Some(came_out) => came_out,
-            None => on_keeper(alloc, &mut run.keeper, step),
+        Some(run) => match on_vault(alloc, &mut run.vault, order) {
+            Some(came_out) => Some(came_out),
+            None => on_keeper(alloc, &mut run.keeper, order),
         },
-        None => false,
+        None => None,
     }
 }
 
-impl<'a, R: Files + Copy + Drop> Turns<'a, R>
-where
-    R::File: Lock,
-{
-    /// Whether both runs begin, after those before have ended.
-    fn begin(&mut self, alloc: Global, reads: bool) -> bool {
-        let places = self.places;
-        let blocks = places.blocks.as_str();
-        self.first = None;
-        self.second = None;
-        self.first = make_begun(alloc, self.host, blocks, &places.first, reads).ok();
-        self.second = make_begun(alloc, self.host, blocks, &places.second, reads).ok();
-        self.is_second = false;
-        self.first.is_some() && self.second.is_some()
-    }
-
-    /// Whether a step of the runs comes out as it says.
-    fn turn(&mut self, alloc: Global, step: Step<'_>) -> bool {
-        match step {
-            Step::Begin => return self.begin(alloc, true),
-            Step::BeginUnread => return self.begin(alloc, false),
-            Step::First => self.is_second = false,
-            Step::Second => self.is_second = true,
-            Step::End => {
-                self.first = None;
-                self.is_second = true;
-            }
-            _ if self.is_second => return calls(alloc, &mut self.second, step),
-            _ => return calls(alloc, &mut self.first, step),
+/// Whether an order to the runs comes out, where it is one.
+fn on_turns(turns: &mut Turns<'_>, order: &Order<'_>) -> Option<bool> {
+    match order.name {
+        "begin" => return Some(begin(turns, true)),
+        "begin-unread" => return Some(begin(turns, false)),
+        "first" => turns.is_second = false,
+        "second" => turns.is_second = true,
+        "end" => {
+            set(&mut turns.first, None);
+            turns.is_second = true;
         }
-        true
+        "allows" => turns.shared.left.set(order.subject.parse().ok()?),
+        "none-left" => return Some(turns.shared.left.get() == 0),
+        _ if turns.is_second => return on_run(turns.rt.alloc(), &mut turns.second, order),
+        _ => return on_run(turns.rt.alloc(), &mut turns.first, order),
     }
+    Some(true)
 }
 
-/// Whether a step on the count of flushes comes out as it says, where it is one.
-fn on_flushes(left: &Cell<u32>, step: Step<'_>) -> Option<bool> {
-    match step {
-        Step::Allows(flushes) => {
-            left.set(flushes);
-            Some(true)
-        }
-        Step::NoneLeft => Some(left.get() == 0),
-        _ => None,
-    }
-}
-
-/// Whether any step comes out as it says.
-fn takes<R: Files + Copy + Drop>(
-    rt: &HostRuntime,
-    turns: &mut Turns<'_, R>,
-    left: &Cell<u32>,
-    step: Step<'_>,
-) -> bool
-where
-    R::File: Lock,
-{
-    if let Some(came_out) = on_flushes(left, step) {
-        return came_out;
-    }
-    match on_files(rt, turns.places.folder.as_str(), step) {
-        Some(came_out) => came_out,
-        None => turns.turn(rt.alloc(), step),
-    }
-}
-
-/// The first step that doesn't come out as it says, if one doesn't.
-fn wrong_of<R: Files + Copy + Drop>(
-    rt: &HostRuntime,
-    turns: &mut Turns<'_, R>,
-    left: &Cell<u32>,
-    steps: &[Step<'_>],
-) -> Option<usize>
-where
-    R::File: Lock,
-{
-    for (number, step) in steps.iter().enumerate() {
-        if !takes(rt, turns, left, *step) {
-            return Some(number);
+impl Stage for Turns<'_> {
+    fn takes(&mut self, order: &Order<'_>) -> Option<bool> {
+        match on_files(&self.rt, self.places.folder.as_str(), order) {
+            Some(came_out) => Some(came_out),
+            None => on_turns(self, order),
         }
     }
-    None
 }
 
-/// The same of a trial on this system, with its count of flushes. Where a folder can't be made or removed, it is a step
-/// that there isn't.
-pub fn wrong_step<R: Files + Copy + Drop>(
-    rt: &HostRuntime,
-    host: R,
-    left: &Cell<u32>,
-    trial: &Trial<'_>,
-) -> Option<usize>
-where
-    R::File: Lock,
-{
-    let Some(places) = make_places(rt, trial) else {
-        return Some(usize::MAX);
-    };
+/// A story of two runs of different numbers over one block folder, `b s s` where its places aren't told. Its orders are those
+/// on files, those on the block folder and the record of the run whose turn it is, and these:
+///
+/// | Order | Does or sees |
+/// |---|---|
+/// | `begin` | those before end, both begin, and it is the first one's turn |
+/// | `begin-unread` | the same, of runs that don't look at a record |
+/// | `first`, `second` | it is this one's turn |
+/// | `end` | the first ends, and it is the second one's turn |
+/// | `allows 2` | from here on so many flushes succeed |
+/// | `none-left` | none of them is left |
+pub fn play_runs(rt: &HostRuntime, names: &str, lines: &str) -> Result<(), Fail> {
+    let names = if names.is_empty() { "b s s" } else { names };
+    let places = make_places(rt, names)?;
+    let shared = new_shared(rt.alloc())?;
     let mut turns = Turns {
-        host,
+        rt: *rt,
         places: &places,
+        shared: &shared,
         first: None,
         second: None,
         is_second: false,
     };
-    let wrong = wrong_of(rt, &mut turns, left, trial.steps);
+    let played = play(&mut turns, lines);
     drop(turns);
-    match fs::remove_dir_all(rt, places.folder.as_str()) {
-        Ok(()) => wrong,
-        Err(_) => wrong.or(Some(usize::MAX)),
-    }
+    let removed = remove_places(rt, &places);
+    played?;
+    Ok(removed?)
 }
