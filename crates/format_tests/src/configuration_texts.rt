@@ -1,288 +1,164 @@
 // JSON texts in files that are sealed here as the formats say, part by part, with zeros for the salt, the IVs and the fill.
-use crate::bytes::{append, joined};
-use crate::configurations::{PASSWORD, config};
-use crate::rows::not_so;
-use aes_block::KeySchedule;
-use byte_fields::take_array;
-use config_file::aes_gcm::gcm_seal;
-use config_file::{ConfigError, Opened, open_config};
-use scrypt_kdf::{Params, scrypt};
+
+use crate::configurations::{PASSWORD, opened};
+use crate::gcm::{Case, sealed};
+use crate::key_derivation::derived;
+use crate::rows::tell;
+use crate::words::number;
+use scrypt_kdf::Params;
 use std::alloc::Global;
 use std::test::Fail;
 
-const FS_ID: &str = "\"101112131415161718191A1B1C1D1E1F\"";
-
-const KEY: &str = "\"808182838485868788898A8B8C8D8E8F909192939495969798999A9B9C9D9E9F\"";
-
-const ROOT: &str = "\"F0F1F2F3F4F5F6F7F8F9FAFBFCFDFEFF\"";
-
-const CIPHER: &str = "\"aes-256-gcm\"";
+/// The text of the configuration.
+const RIGHT: &str =
+    r#"{"blocksizeBytes":16384,"cipher":"aes-256-gcm","filesystemId":"101112131415161718191A1B1C1D1E1F","key":"808182838485868788898A8B8C8D8E8F909192939495969798999A9B9C9D9E9F","rootblob":"F0F1F2F3F4F5F6F7F8F9FAFBFCFDFEFF"}"#;
 
 /// The front of a file under N = 2, r = 1 and p = 1. The salt stands behind it.
 const OUTER: &str = "cryfs.config;1;scrypt\0\x02\0\0\0\0\0\0\0\x01\0\0\0\x01\0\0\0";
 
 const SALT: [u8; 32] = [0; 32];
 
-/// The texts of the members.
-#[derive(Clone, Copy)]
-struct Members<'a> {
-    size: &'a str,
-    cipher: &'a str,
-    fs_id: &'a str,
-    key: &'a str,
-    root: &'a str,
-}
-
-const RIGHT: Members<'static> = Members {
-    size: "16384",
-    cipher: CIPHER,
-    fs_id: FS_ID,
-    key: KEY,
-    root: ROOT,
-};
-
-fn append_member(text: &mut Vec<u8>, name: &str, member: &str) -> Option<()> {
-    append(text, &[name.as_bytes(), member.as_bytes()])
-}
-
-fn json_of(alloc: Global, members: &Members<'_>) -> Option<Vec<u8>> {
-    let mut text = Vec::new(alloc);
-    append_member(&mut text, "{\"blocksizeBytes\":", members.size)?;
-    append_member(&mut text, ",\"cipher\":", members.cipher)?;
-    append_member(&mut text, ",\"filesystemId\":", members.fs_id)?;
-    append_member(&mut text, ",\"key\":", members.key)?;
-    append_member(&mut text, ",\"rootblob\":", members.root)?;
-    append_member(&mut text, "}", "")?;
-    Some(text)
-}
-
-fn append_sealed(key: &[u8; 32], plain: &[u8], out: &mut Vec<u8>) -> Option<()> {
+fn append_sealed(
+    alloc: Global,
+    key: &[u8; 32],
+    plain: &[u8],
+    out: &mut Vec<u8>,
+) -> Result<(), Fail> {
     let iv = [0; 16];
-    out.extend_from_slice(&iv).ok()?;
-    let tag = gcm_seal(&KeySchedule::new(key), &iv, &[], plain, out).ok()?;
-    out.extend_from_slice(&tag).ok()
+    let case = Case {
+        key,
+        iv: &iv,
+        extra: &[],
+        plain,
+    };
+    let (text, tag) = sealed(alloc, &case)?;
+    out.extend_from_slice(&iv)?;
+    out.extend_from_slice(&text)?;
+    out.extend_from_slice(&tag)?;
+    Ok(())
 }
 
 /// What is sealed innermost: the text with its length, and zeros up to 900 bytes.
-fn innermost_of(alloc: Global, json: &[u8]) -> Option<Vec<u8>> {
-    let len = u32::try_from(json.len()).ok()?.to_le_bytes();
-    let mut innermost = joined(alloc, &[&len, json], &[&[0; 900]])?;
-    innermost.truncate(900);
-    Some(innermost)
+fn innermost_of(alloc: Global, json: &[u8]) -> Result<Vec<u8>, Fail> {
+    let len = u32::try_from(json.len())?.to_le_bytes();
+    let mut innermost = len.to_vec(alloc)?;
+    innermost.extend_from_slice(json)?;
+    innermost.resize(900, 0)?;
+    Ok(innermost)
 }
 
-fn inner_of(alloc: Global, key: &[u8; 32], json: &[u8]) -> Option<Vec<u8>> {
+fn inner_of(alloc: Global, key: &[u8; 32], json: &[u8]) -> Result<Vec<u8>, Fail> {
+    let mut inner = b"cryfs.config.inner;0\0aes-256-gcm\0".to_vec(alloc)?;
     let innermost = innermost_of(alloc, json)?;
-    let mut inner = joined(alloc, &[b"cryfs.config.inner;0\0aes-256-gcm\0"], &[])?;
-    append_sealed(key, &innermost, &mut inner)?;
-    append(&mut inner, &[&[0; 59]])?;
-    Some(inner)
+    append_sealed(alloc, key, &innermost, &mut inner)?;
+    inner.resize(1024, 0)?;
+    Ok(inner)
 }
 
-/// What scrypt derives from the password.
-fn derived(alloc: Global) -> Option<[u8; 64]> {
-    let mut derived = [0; 64];
-    let params = Params::new(2, 1, 1).ok()?;
-    scrypt(alloc, PASSWORD, &SALT, &params, &mut derived).ok()?;
-    Some(derived)
-}
-
-/// The keys of the outer and of the inner seal: the halves of the 64 bytes.
-fn keys_of(derived: &[u8; 64]) -> Option<([u8; 32], [u8; 32])> {
-    let (outer, rest) = take_array::<32>(derived)?;
-    let (inner, _) = take_array::<32>(rest)?;
-    Some((outer, inner))
+/// The keys of the outer and of the inner seal.
+fn halves(derived: &[u8; 64]) -> ([u8; 32], [u8; 32]) {
+    let mut outer = [0; 32];
+    let mut inner = [0; 32];
+    outer.copy_from_slice(&derived[..32]);
+    inner.copy_from_slice(&derived[32..]);
+    (outer, inner)
 }
 
 /// The file that holds this text.
-fn file_of(alloc: Global, json: &[u8]) -> Option<Vec<u8>> {
-    let (outer_key, inner_key) = keys_of(&derived(alloc)?)?;
+fn file_of(alloc: Global, json: &[u8]) -> Result<Vec<u8>, Fail> {
+    let params = Params::new(2, 1, 1)?;
+    let (outer_key, inner_key) = halves(&derived(alloc, PASSWORD, &SALT, &params)?);
     let inner = inner_of(alloc, &inner_key, json)?;
-    let mut file = joined(alloc, &[OUTER.as_bytes(), &SALT], &[])?;
-    append_sealed(&outer_key, &inner, &mut file)?;
-    Some(file)
+    let mut file = OUTER.as_bytes().to_vec(alloc)?;
+    file.extend_from_slice(&SALT)?;
+    append_sealed(alloc, &outer_key, &inner, &mut file)?;
+    Ok(file)
 }
 
-/// What a file with this text opens to.
-fn opened(alloc: Global, json: &[u8]) -> Option<Result<Opened, ConfigError>> {
-    let file = file_of(alloc, json)?;
-    Some(open_config(alloc, PASSWORD, &file))
-}
-
-fn holds_config(alloc: Global, json: &[u8]) -> bool {
-    match opened(alloc, json) {
-        Some(Ok(opened)) => opened.config == config(),
-        _ => false,
-    }
-}
-
-fn is_inner(alloc: Global, json: &[u8]) -> bool {
-    matches!(opened(alloc, json), Some(Err(ConfigError::Inner)))
-}
-
-/// Whether a text with these members is the configuration.
-fn is_right(alloc: Global, members: &Members<'_>) -> bool {
-    match json_of(alloc, members) {
-        Some(text) => holds_config(alloc, &text),
-        None => false,
-    }
-}
-
-/// Whether a text with these members is none.
-fn is_refused(alloc: Global, members: &Members<'_>) -> bool {
-    match json_of(alloc, members) {
-        Some(text) => is_inner(alloc, &text),
-        None => false,
-    }
-}
-
-/// The same with lower-case digits.
-const LOWER: Members<'static> = Members {
-    fs_id: "\"101112131415161718191a1b1c1d1e1f\"",
-    key: "\"808182838485868788898a8b8c8d8e8f909192939495969798999A9B9C9D9E9F\"",
-    root: "\"f0f1f2f3f4f5f6f7f8f9fafbfcfdfeff\"",
-    ..RIGHT
-};
-
-#[test]
-fn opens_other_writings(rt: HostRuntime) {
-    assert!(rt; is_right(rt.alloc(), &RIGHT));
-    // The number, and members before and behind it.
-    let sizes = [
-        " 16384 ",
-        "0,\"blocksizeBytes\":16384",
-        "16384,\"other\":[1,{\"key\":null}]",
-        "16384,\n\t\"exclusiveClientId\":\"\\u0041\"",
-    ];
-    for size in sizes {
-        assert!(rt; is_right(rt.alloc(), &Members { size, ..LOWER }), "{size}");
-    }
-}
-
-/// A member that has another text than the right one.
-#[derive(Clone, Copy)]
-enum Member {
-    Size,
-    Cipher,
-    FsId,
-    Key,
-    Root,
-}
-
-/// Other block sizes.
-const SIZES: &str = "127
-1048577
-0
--16384
-16384.0
-1.6384e4
-\"16384\"
-null";
-
-/// Other ciphers.
-const CIPHERS: &str = "\"aes-256-cbc\"
-\"AES-256-GCM\"
-\"aes-256-gcm\\u0000\"
-\"\"
-256";
-
-/// No ids. The last is a key.
-const IDS: &str = "\"101112131415161718191A1B1C1D1E\"
-\"101112131415161718191A1B1C1D1E1F20\"
-\"101112131415161718191A1B1C1D1E1G\"
-\"101112131415161718191A1B1C1D1E1F \"
-\"\"
-[]
-\"808182838485868788898A8B8C8D8E8F909192939495969798999A9B9C9D9E9F\"";
-
-fn right_but<'a>(member: Member, text: &'a str) -> Members<'a> {
-    let mut members = RIGHT;
-    match member {
-        Member::Size => members.size = text,
-        Member::Cipher => members.cipher = text,
-        Member::FsId => members.fs_id = text,
-        Member::Key => members.key = text,
-        Member::Root => members.root = text,
-    }
-    members
-}
-
-/// Each line is refused as this member.
-fn all_are_refused(alloc: Global, member: Member, texts: &str) -> Result<(), Fail> {
-    for text in texts.split("\n") {
-        if !is_refused(alloc, &right_but(member, text)) {
-            return Err(not_so(text));
-        }
+/// A text in which `|` stands for an end of line, `~` for a tabulator and `_` for a space.
+fn append_plain(json: &mut Vec<u8>, text: &str) -> Result<(), Fail> {
+    for byte in text.bytes() {
+        json.push(match byte {
+            b'|' => b'\n',
+            b'~' => b'\t',
+            b'_' => b' ',
+            _ => byte,
+        })?;
     }
     Ok(())
 }
 
-#[test]
-fn refuses_other_block_sizes(rt: HostRuntime) -> Result<(), Fail> {
-    all_are_refused(rt.alloc(), Member::Size, SIZES)
-}
-
-#[test]
-fn refuses_other_ciphers(rt: HostRuntime) -> Result<(), Fail> {
-    all_are_refused(rt.alloc(), Member::Cipher, CIPHERS)
-}
-
-#[test]
-fn refuses_other_ids(rt: HostRuntime) -> Result<(), Fail> {
-    all_are_refused(rt.alloc(), Member::FsId, IDS)?;
-    all_are_refused(rt.alloc(), Member::Root, IDS)?;
-    all_are_refused(rt.alloc(), Member::Key, ROOT)
-}
-
-/// Whether the right text is refused with more behind it.
-fn is_refused_with(alloc: Global, more: &[u8]) -> bool {
-    match json_of(alloc, &RIGHT) {
-        Some(mut text) => append(&mut text, &[more]).is_some() && is_inner(alloc, &text),
-        None => false,
+/// The right text with another part, `16384 -> 127`, or this text.
+fn json_of(alloc: Global, text: &str) -> Result<Vec<u8>, Fail> {
+    let (part, other) = text.split_once(" -> ").unwrap_or((RIGHT, text));
+    let (front, end) = RIGHT.split_once(part).ok_or("no part of the right text")?;
+    let mut json = Vec::new(alloc);
+    for piece in [front, other, end] {
+        append_plain(&mut json, piece)?;
     }
+    Ok(json)
 }
 
-/// Other texts, of which one is empty and one a space.
-const OTHERS: &str = "| |{|{}|[]|null|16384|\"aes-256-gcm\"|{\"blocksizeBytes\":16384}";
-
-fn all_are_inner(alloc: Global, texts: &str) -> Result<(), Fail> {
-    for text in texts.split("|") {
-        if !is_inner(alloc, text.as_bytes()) {
-            return Err(not_so(text));
-        }
+/// Opens the file that holds a text, or the right one with spaces up to so many bytes.
+pub(crate) fn opened_text(alloc: Global, word: &str, text: &str) -> Result<String, Fail> {
+    let mut json = json_of(alloc, if word == "json" { text } else { RIGHT })?;
+    if word == "json-filled" {
+        json.resize(number(text), b' ')?;
     }
-    Ok(())
+    let file = file_of(alloc, &json)?;
+    opened(alloc, PASSWORD, &file)
 }
+
+/// The same configuration with members that aren't known or come twice, white space, and digits of either case; then texts of
+/// no configuration, most of them the right text with another part.
+const TEXTS: &str =
+    r#"json {"blocksizeBytes":16384,"cipher":"aes-256-gcm","filesystemId":"101112131415161718191A1B1C1D1E1F","key":"808182838485868788898A8B8C8D8E8F909192939495969798999A9B9C9D9E9F","rootblob":"F0F1F2F3F4F5F6F7F8F9FAFBFCFDFEFF"} = the configuration under 2 1 1
+json {"blocksizeBytes": 16384 ,"cipher":"aes-256-gcm","filesystemId":"101112131415161718191a1b1c1d1e1f","key":"808182838485868788898a8b8c8d8e8f909192939495969798999A9B9C9D9E9F","rootblob":"f0f1f2f3f4f5f6f7f8f9fafbfcfdfeff"} = the configuration under 2 1 1
+json {"blocksizeBytes":0,"blocksizeBytes":16384,"cipher":"aes-256-gcm","filesystemId":"101112131415161718191a1b1c1d1e1f","key":"808182838485868788898a8b8c8d8e8f909192939495969798999A9B9C9D9E9F","rootblob":"f0f1f2f3f4f5f6f7f8f9fafbfcfdfeff"} = the configuration under 2 1 1
+json {"blocksizeBytes":16384,"other":[1,{"key":null}],"cipher":"aes-256-gcm","filesystemId":"101112131415161718191a1b1c1d1e1f","key":"808182838485868788898a8b8c8d8e8f909192939495969798999A9B9C9D9E9F","rootblob":"f0f1f2f3f4f5f6f7f8f9fafbfcfdfeff"} = the configuration under 2 1 1
+json {"blocksizeBytes":16384,|~"exclusiveClientId":"\u0041","cipher":"aes-256-gcm","filesystemId":"101112131415161718191a1b1c1d1e1f","key":"808182838485868788898a8b8c8d8e8f909192939495969798999A9B9C9D9E9F","rootblob":"f0f1f2f3f4f5f6f7f8f9fafbfcfdfeff"} = the configuration under 2 1 1
+json-filled 896 = the configuration under 2 1 1
+json 16384 -> 127 = inner
+json 16384 -> 1048577 = inner
+json 16384 -> 0 = inner
+json 16384 -> -16384 = inner
+json 16384 -> 16384.0 = inner
+json 16384 -> 1.6384e4 = inner
+json 16384 -> "16384" = inner
+json 16384 -> null = inner
+json "aes-256-gcm" -> "aes-256-cbc" = inner
+json "aes-256-gcm" -> "AES-256-GCM" = inner
+json "aes-256-gcm" -> "aes-256-gcm\u0000" = inner
+json "aes-256-gcm" -> "" = inner
+json "aes-256-gcm" -> 256 = inner
+json "101112131415161718191A1B1C1D1E1F" -> "101112131415161718191A1B1C1D1E" = inner
+json "101112131415161718191A1B1C1D1E1F" -> "101112131415161718191A1B1C1D1E1F20" = inner
+json "101112131415161718191A1B1C1D1E1F" -> "101112131415161718191A1B1C1D1E1G" = inner
+json "101112131415161718191A1B1C1D1E1F" -> "101112131415161718191A1B1C1D1E1F " = inner
+json "101112131415161718191A1B1C1D1E1F" -> "" = inner
+json "101112131415161718191A1B1C1D1E1F" -> [] = inner
+json "101112131415161718191A1B1C1D1E1F" -> "808182838485868788898A8B8C8D8E8F909192939495969798999A9B9C9D9E9F" = inner
+json "F0F1F2F3F4F5F6F7F8F9FAFBFCFDFEFF" -> "101112131415161718191A1B1C1D1E" = inner
+json "F0F1F2F3F4F5F6F7F8F9FAFBFCFDFEFF" -> "101112131415161718191A1B1C1D1E1F20" = inner
+json "F0F1F2F3F4F5F6F7F8F9FAFBFCFDFEFF" -> "101112131415161718191A1B1C1D1E1G" = inner
+json "F0F1F2F3F4F5F6F7F8F9FAFBFCFDFEFF" -> "101112131415161718191A1B1C1D1E1F " = inner
+json "F0F1F2F3F4F5F6F7F8F9FAFBFCFDFEFF" -> "" = inner
+json "F0F1F2F3F4F5F6F7F8F9FAFBFCFDFEFF" -> [] = inner
+json "F0F1F2F3F4F5F6F7F8F9FAFBFCFDFEFF" -> "808182838485868788898A8B8C8D8E8F909192939495969798999A9B9C9D9E9F" = inner
+json "808182838485868788898A8B8C8D8E8F909192939495969798999A9B9C9D9E9F" -> "F0F1F2F3F4F5F6F7F8F9FAFBFCFDFEFF" = inner
+json {"blocksizeBytes":16384,"cipher":"aes-256-gcm","filesystemId":"101112131415161718191A1B1C1D1E1F","key":"808182838485868788898A8B8C8D8E8F909192939495969798999A9B9C9D9E9F","rootblob":"F0F1F2F3F4F5F6F7F8F9FAFBFCFDFEFF"}{} = inner
+json = inner
+json _ = inner
+json { = inner
+json {} = inner
+json [] = inner
+json null = inner
+json 16384 = inner
+json "aes-256-gcm" = inner
+json {"blocksizeBytes":16384} = inner
+json-filled 897 = inner"#;
 
 #[test]
-fn refuses_other_texts(rt: HostRuntime) -> Result<(), Fail> {
-    assert!(rt; is_refused_with(rt.alloc(), b"{}"));
-    all_are_inner(rt.alloc(), OTHERS)
-}
-
-/// The right text, and spaces up to so many bytes.
-fn filled(alloc: Global, len: usize) -> Option<Vec<u8>> {
-    let mut text = json_of(alloc, &RIGHT)?;
-    text.resize(len, b' ').ok()?;
-    Some(text)
-}
-
-fn holds_config_filled(alloc: Global, len: usize) -> bool {
-    match filled(alloc, len) {
-        Some(text) => holds_config(alloc, &text),
-        None => false,
-    }
-}
-
-fn is_inner_filled(alloc: Global, len: usize) -> bool {
-    match filled(alloc, len) {
-        Some(text) => is_inner(alloc, &text),
-        None => false,
-    }
-}
-
-#[test]
-fn takes_896_bytes_of_text(rt: HostRuntime) {
-    assert!(rt; holds_config_filled(rt.alloc(), 896));
-    assert!(rt; is_inner_filled(rt.alloc(), 897));
+fn texts_open_or_not(rt: HostRuntime) -> Result<(), Fail> {
+    tell(&rt, TEXTS)
 }

@@ -1,32 +1,37 @@
 // Names of ids, and the id after.
-use block_id::BlockId;
 
-#[test]
-fn names_both_ways(rt: HostRuntime) {
-    let id = BlockId([
-        0x00, 0x11, 0x22, 0x33, 0x44, 0x55, 0x66, 0x77, 0x88, 0x99, 0xaa, 0xbb, 0xcc, 0xdd, 0xee,
-        0xff,
-    ]);
-    assert!(rt; id.to_name() == *b"00112233445566778899AABBCCDDEEFF");
-    let texts: [(&[u8], Option<BlockId>); 6] = [
-        (b"00112233445566778899AABBCCDDEEFF", Some(id)),
-        (b"00112233445566778899aabbccddEEff", Some(id)),
-        (b"0112233445566778899AABBCCDDEEFF", None),
-        (b"000112233445566778899AABBCCDDEEFF", None),
-        (b"00112233445566778899AABBCCDDEEFG", None),
-        (b"", None),
-    ];
-    for (text, named) in texts {
-        assert!(rt; BlockId::from_name(text) == named);
+use crate::rows::tell;
+use crate::words::{array, hex_of, say};
+use block_id::BlockId;
+use std::alloc::Global;
+use std::test::Fail;
+
+/// The name of an id, the id after it, or the id that a text names.
+pub(crate) fn answer(alloc: Global, word: &str, text: &str) -> Result<String, Fail> {
+    match word {
+        "name-of" => say(
+            alloc,
+            str::from_utf8(&BlockId(array(text)).to_name()).unwrap_or(""),
+        ),
+        "id-after" => hex_of(alloc, &BlockId(array(text)).next().0),
+        _ => match BlockId::from_name(text.as_bytes()) {
+            Some(id) => hex_of(alloc, &id.0),
+            None => say(alloc, "none"),
+        },
     }
 }
 
+const IDS: &str = "name-of 00112233445566778899aabbccddeeff = 00112233445566778899AABBCCDDEEFF
+id-of 00112233445566778899AABBCCDDEEFF = 00112233445566778899aabbccddeeff
+id-of 00112233445566778899aabbccddEEff = 00112233445566778899aabbccddeeff
+id-of 0112233445566778899AABBCCDDEEFF = none
+id-of 000112233445566778899AABBCCDDEEFF = none
+id-of 00112233445566778899AABBCCDDEEFG = none
+id-of = none
+id-after ffffffffffffffffffffffffffffffff = 00000000000000000000000000000000
+id-after 00ffffffffffffffffffffffffffffff = 01000000000000000000000000000000";
+
 #[test]
-fn counts_past_the_end(rt: HostRuntime) {
-    let mut last = [0xff; 16];
-    assert!(rt; BlockId(last).next() == BlockId([0; 16]));
-    last[0] = 0;
-    let mut next = [0; 16];
-    next[0] = 1;
-    assert!(rt; BlockId(last).next() == BlockId(next));
+fn ids_have_names_and_successors(rt: HostRuntime) -> Result<(), Fail> {
+    tell(&rt, IDS)
 }

@@ -1,9 +1,13 @@
-//! What lies in files and messages, against texts and bytes that are written out here. There is nothing here but
-//! tests.
+//! What lies in files and messages, and the ciphers that seal it, against texts, bytes and vectors from outside. There is
+//! nothing here but tests.
 #![tactic(auto)]
 
 #[cfg(test)]
-mod bytes;
+mod block;
+#[cfg(test)]
+mod compared;
+#[cfg(test)]
+mod configuration_files;
 #[cfg(test)]
 mod configuration_texts;
 #[cfg(test)]
@@ -11,12 +15,26 @@ mod configurations;
 #[cfg(test)]
 mod fields;
 #[cfg(test)]
+mod fronts;
+#[cfg(test)]
+mod gcm;
+#[cfg(test)]
 mod ids;
 #[cfg(test)]
+mod key_derivation;
+#[cfg(test)]
 mod nodes;
+#[cfg(test)]
+mod plain;
+#[cfg(test)]
+mod plain_steps;
 #[cfg(test)]
 mod records;
 #[cfg(test)]
 mod rows;
 #[cfg(test)]
+mod sealer;
+#[cfg(test)]
 mod states;
+#[cfg(test)]
+mod words;

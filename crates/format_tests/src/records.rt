@@ -1,139 +1,126 @@
 // Records byte by byte, and what a client says of each. Client 7 asks for block 1, which it knows at version 2, of blocks
 // of 128 bytes.
+
+use crate::rows::tell;
+use crate::words::{array, bytes_of, hex_of, say, words_of};
 use block_id::{BlockId, Why};
 use block_records::sealed_store::Seen;
-use block_records::{HEAD_LEN, Head, OVERHEAD, judge, read_head, write_record};
+use block_records::{HEAD_LEN, OVERHEAD, judge, read_head, write_record};
 use std::alloc::Global;
+use std::test::Fail;
 
 const ID: BlockId = BlockId([1; 16]);
 
-const CLIENT: u32 = 7;
-
-const KNOWN: u64 = 2;
-
-const RECORD: &[u8] =
-    b"\x01\x000123456789abcdef\x04\x03\x02\x01\x88\x77\x66\x55\x44\x33\x22\x11text";
-
-const HEAD: Head = Head {
-    id: BlockId(*b"0123456789abcdef"),
-    client: 0x01020304,
-    version: 0x1122334455667788,
-};
-
-fn is_written(alloc: Global) -> bool {
-    let record = write_record(alloc, &HEAD.id, 0x01020304, 0x1122334455667788, b"text");
-    matches!(&record, Ok(record) if record.as_slice() == RECORD)
+/// The record of an id, a client, a version and a payload, the numbers with their high byte first.
+pub(crate) fn written(alloc: Global, rest: &str) -> Result<String, Fail> {
+    let [id, client, version, payload, ..] = words_of(rest);
+    let client = u32::from_be_bytes(array(client));
+    let version = u64::from_be_bytes(array(version));
+    if client == 0 || version == 0 {
+        return Err("no record is of client 0 or version 0".into());
+    }
+    let payload = bytes_of(alloc, payload)?;
+    let record = write_record(alloc, &BlockId(array(id)), client, version, &payload)?;
+    hex_of(alloc, &record)
 }
 
-/// The head in so many bytes from the front of the record.
-fn head_in(len: usize) -> Option<Head> {
-    read_head(RECORD.get(..len)?)
-}
-
-#[test]
-fn a_record_as_bytes(rt: HostRuntime) {
-    assert!(rt; is_written(rt.alloc()));
-    assert!(rt; head_in(34) == Some(HEAD));
-    assert!(rt; head_in(HEAD_LEN) == Some(HEAD));
-    assert!(rt; head_in(HEAD_LEN - 1).is_none());
-    assert!(rt; head_in(0).is_none());
-    assert!(rt; OVERHEAD == 78);
-}
-
-/// What a block's file holds: its form, its id, its client, its version and 50 bytes of payload.
-fn plain_of(fields: [u8; 4]) -> [u8; 80] {
-    let [form, id, client, version] = fields;
-    let mut plain = [9; 80];
-    for (i, byte) in plain.iter_mut().enumerate() {
-        match i {
-            0 => *byte = form,
-            2..18 => *byte = id,
-            18 => *byte = client,
-            22 => *byte = version,
-            1 | 19..30 => *byte = 0,
-            _ => {}
+/// The head of a record that begins so: its id, its client and its version; or how long heads and all that isn't payload are.
+pub(crate) fn head(alloc: Global, front: &str) -> Result<String, Fail> {
+    if front == "sizes" {
+        return Ok(format!(in alloc; "{HEAD_LEN} {OVERHEAD}")?);
+    }
+    let front = bytes_of(alloc, front)?;
+    match read_head(&front) {
+        Some(head) => {
+            let id = hex_of(alloc, &head.id.0)?;
+            Ok(format!(in alloc; "{id} {} {}", head.client, head.version)?)
         }
-    }
-    plain
-}
-
-/// What a client says of so many bytes in front of a record.
-fn judged(alloc: Global, fields: [u8; 4], len: usize) -> Option<Result<Vec<u8>, Why>> {
-    let seen = Seen::Plain(plain_of(fields).get(..len)?.to_vec(alloc).ok()?);
-    Some(judge(&ID, CLIENT, KNOWN, seen))
-}
-
-fn is_taken(alloc: Global, fields: [u8; 4], len: usize, payload: &[u8]) -> bool {
-    match judged(alloc, fields, len) {
-        Some(Ok(found)) => found.as_slice() == payload,
-        _ => false,
+        None => say(alloc, "none"),
     }
 }
 
-fn refusal(alloc: Global, fields: [u8; 4], len: usize) -> Option<Why> {
-    judged(alloc, fields, len)?.err()
-}
-
-#[test]
-fn a_good_record_gives_its_payload(rt: HostRuntime) {
-    assert!(rt; is_taken(rt.alloc(), [1, 1, 7, 2], 80, &[9; 50]));
-}
-
-fn is_refused(alloc: Global, fields: [u8; 4], len: usize, why: &Why) -> bool {
-    match refusal(alloc, fields, len) {
-        Some(found) => found == *why,
-        None => false,
+/// The word for why there is no payload.
+fn word_of(why: &Why) -> &'static str {
+    match why {
+        Why::Missing => "missing",
+        Why::BadLength => "bad-length",
+        Why::BadPrefix => "bad-prefix",
+        Why::OldFormat => "old-format",
+        Why::NotOpened => "not-opened",
+        Why::BadRecord => "bad-record",
+        Why::WrongId(_) => "wrong-id",
+        Why::ForeignClient(_) => "foreign-client",
+        Why::OldVersion { .. } => "old-version",
+        Why::AheadVersion { .. } => "ahead-version",
+        Why::Structure => "structure",
     }
 }
 
-fn is_bad(alloc: Global, fields: [u8; 4], len: usize) -> bool {
-    is_refused(alloc, fields, len, &Why::BadRecord)
+/// Why there is no payload, with the numbers that this has.
+fn said(alloc: Global, why: &Why) -> Result<String, Fail> {
+    let word = word_of(why);
+    match why {
+        Why::WrongId(id) => {
+            let digits = hex_of(alloc, &id.0)?;
+            Ok(format!(in alloc; "{word} {digits}")?)
+        }
+        Why::ForeignClient(client) => Ok(format!(in alloc; "{word} {client}")?),
+        Why::OldVersion { known, found } | Why::AheadVersion { known, found } => {
+            Ok(format!(in alloc; "{word} {known} {found}")?)
+        }
+        _ => say(alloc, word),
+    }
 }
 
-#[test]
-fn says_what_is_wrong_with_a_record(rt: HostRuntime) {
-    assert!(rt; is_bad(rt.alloc(), [2, 1, 7, 2], 80));
-    assert!(rt; is_bad(rt.alloc(), [1, 1, 0, 2], 80));
-    assert!(rt; is_bad(rt.alloc(), [1, 1, 7, 0], 80));
-    let other = Why::WrongId(BlockId([5; 16]));
-    assert!(rt; is_refused(rt.alloc(), [1, 5, 8, 1], 80, &other));
-    assert!(rt; is_refused(rt.alloc(), [1, 1, 8, 1], 80, &Why::ForeignClient(8)));
+/// What was seen: why there is no record, or the bytes of one.
+fn seen(alloc: Global, what: &str) -> Result<Seen, Fail> {
+    Ok(match what {
+        "absent" => Seen::Absent,
+        "bad-length" => Seen::BadLength,
+        "bad-prefix" => Seen::BadPrefix,
+        "old-format" => Seen::OldFormat,
+        "not-opened" => Seen::NotOpened,
+        _ => Seen::Plain(bytes_of(alloc, what)?),
+    })
 }
 
-const OLD: Why = Why::OldVersion {
-    known: KNOWN,
-    found: 1,
-};
-
-const AHEAD: Why = Why::AheadVersion {
-    known: KNOWN,
-    found: 3,
-};
+/// What a client says: the payload, or why it takes none.
+pub(crate) fn judged(alloc: Global, what: &str) -> Result<String, Fail> {
+    match judge(&ID, 7, 2, seen(alloc, what)?) {
+        Ok(payload) => {
+            let digits = hex_of(alloc, &payload)?;
+            Ok(format!(in alloc; "payload {digits}")?)
+        }
+        Err(why) => said(alloc, &why),
+    }
+}
 
 /// A front is judged as its record, and one without a head is no record.
-#[test]
-fn says_which_versions_are_wrong(rt: HostRuntime) {
-    assert!(rt; is_refused(rt.alloc(), [1, 1, 7, 1], 80, &OLD));
-    assert!(rt; is_refused(rt.alloc(), [1, 1, 7, 3], 80, &AHEAD));
-    assert!(rt; is_refused(rt.alloc(), [1, 1, 7, 1], 30, &OLD));
-    assert!(rt; is_bad(rt.alloc(), [1, 1, 7, 2], 29));
-}
+const RECORDS: &str =
+    "record 30313233343536373839616263646566 01020304 1122334455667788 74657874 = 01003031323334353637383961626364656604030201887766554433221174657874
+record-head 0100+30313233343536373839616263646566+04030201+8877665544332211+74657874 = 30313233343536373839616263646566 16909060 1234605616436508552
+record-head 0100+30313233343536373839616263646566+04030201+8877665544332211 = 30313233343536373839616263646566 16909060 1234605616436508552
+record-head 0100+30313233343536373839616263646566+04030201+88776655443322 = none
+record-head - = none
+record-head sizes = 30 78
+judge 0100+01*16+07000000+0200000000000000+09*50 = payload 0909090909090909090909090909090909090909090909090909090909090909090909090909090909090909090909090909
+judge 0200+01*16+07000000+0200000000000000+09*50 = bad-record
+judge 0100+01*16+00000000+0200000000000000+09*50 = bad-record
+judge 0100+01*16+07000000+0000000000000000+09*50 = bad-record
+judge 0100+05*16+08000000+0100000000000000+09*50 = wrong-id 05050505050505050505050505050505
+judge 0100+01*16+08000000+0100000000000000+09*50 = foreign-client 8
+judge 0100+01*16+07000000+0100000000000000+09*50 = old-version 2 1
+judge 0100+01*16+07000000+0300000000000000+09*50 = ahead-version 2 3
+judge 0100+01*16+07000000+0100000000000000 = old-version 2 1
+judge 0100+01*16+07000000+02000000000000 = bad-record
+judge 0100+01*16+07000000+0200000000000000+090909 = payload 090909
+judge absent = missing
+judge bad-length = bad-length
+judge bad-prefix = bad-prefix
+judge old-format = old-format
+judge not-opened = not-opened";
 
 #[test]
-fn a_front_gives_that_of_its_payload(rt: HostRuntime) {
-    assert!(rt; is_taken(rt.alloc(), [1, 1, 7, 2], 33, &[9; 3]));
-}
-
-/// What a client says where there is no record.
-fn refusal_of(seen: Seen) -> Option<Why> {
-    judge(&ID, CLIENT, KNOWN, seen).err()
-}
-
-#[test]
-fn says_why_there_is_no_record(rt: HostRuntime) {
-    assert!(rt; refusal_of(Seen::Absent) == Some(Why::Missing));
-    assert!(rt; refusal_of(Seen::BadLength) == Some(Why::BadLength));
-    assert!(rt; refusal_of(Seen::BadPrefix) == Some(Why::BadPrefix));
-    assert!(rt; refusal_of(Seen::OldFormat) == Some(Why::OldFormat));
-    assert!(rt; refusal_of(Seen::NotOpened) == Some(Why::NotOpened));
+fn records_are_written_and_judged(rt: HostRuntime) -> Result<(), Fail> {
+    tell(&rt, RECORDS)
 }

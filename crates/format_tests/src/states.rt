@@ -1,87 +1,139 @@
-// Records of both forms byte by byte, each refusal, and the table of versions.
-ghost use Rattle.std.specs.Prelude.{◌≡◌, ◌<◌};
-
-use crate::bytes::are_same;
-use crate::rows::{append_lines, decoded, not_so};
+// Records of the local state in both forms byte by byte, each refusal, and the table of versions.
+use crate::rows::tell;
+use crate::words::{array, bytes_of, hex_of, number, say, words_of};
 use block_id::BlockId;
 use local_state::{Known, Spent, State, StateError, decode, encode, encode_form1, key_digest};
 use std::alloc::Global;
 use std::test::Fail;
 
-const ONE: [u8; 16] = [1; 16];
+const ONE: BlockId = BlockId([1; 16]);
 
-/// The front of a record of form 2 with the least format 1.
-const HEAD: &str = "cryfs.localstate;2\0\0\x01";
+const LAST: BlockId = BlockId([0xff; 16]);
 
-/// The front of a record of form 1.
-const OLDER_HEAD: &str = "cryfs.localstate;1\0\0";
+/// A record with two known blocks, a live and a dead one, and a list of the configuration and both, in form 1.
+const OLDER: &str = "63727966732e6c6f63616c73746174653b310000+11*16+22*32+33*32+07000000\
+    +0200000000000000+01*16+030100000000000001+02*16+020000000000000000\
+    +0300000000000000+0001020000006869+01+01*16+010100000009+01+02*16+00";
 
-/// The file system, the salt and the digest of the key, and the client, as hexadecimal digits.
-const CONTEXT: &str = "11111111111111111111111111111111
-2222222222222222222222222222222222222222222222222222222222222222
-3333333333333333333333333333333333333333333333333333333333333333
-07000000";
+/// The same in form 2, with the least format 1.
+const NEWER: &str = "63727966732e6c6f63616c73746174653b32000001+11*16+22*32+33*32+07000000\
+    +0200000000000000+01*16+030100000000000001+02*16+020000000000000000\
+    +0300000000000000+0001020000006869+01+01*16+010100000009+01+02*16+00";
 
-/// No block and no entry.
-const NOTHING: &str = "0000000000000000
-0000000000000000";
-
-/// A known block at its first version, and no entry.
-const ONE_BLOCK: &str = "0100000000000000
-01010101010101010101010101010101
-010000000000000001
-0000000000000000";
-
-/// Two known blocks, a live and a dead one, and a list of the configuration and both.
-const BLOCKS_AND_LIST: &str = "0200000000000000
-01010101010101010101010101010101
-030100000000000001
-02020202020202020202020202020202
-020000000000000000
-0300000000000000
-0001020000006869
-01
-01010101010101010101010101010101
-010100000009
-01
-02020202020202020202020202020202
-00";
-
-fn record(alloc: Global, head: &str, rest: &str) -> Option<Vec<u8>> {
-    let mut out = Vec::new(alloc);
-    out.extend_from_slice(head.as_bytes()).ok()?;
-    append_lines(alloc, &mut out, CONTEXT)?;
-    append_lines(alloc, &mut out, rest)?;
-    Some(out)
-}
-
-/// A record of form 2.
-fn full_record(alloc: Global) -> Option<Vec<u8>> {
-    record(alloc, HEAD, BLOCKS_AND_LIST)
-}
-
-/// The same state and list in form 1.
-fn full_older_record(alloc: Global) -> Option<Vec<u8>> {
-    record(alloc, OLDER_HEAD, BLOCKS_AND_LIST)
-}
-
-fn has_len(bytes: &Option<Vec<u8>>, len: usize) -> bool {
-    matches!(bytes, Some(bytes) if bytes.len() == len)
-}
-
-fn state_of(known: Known) -> State
-    ensures client { 0 < result.client }
-    ensures least { result.least ≡ 1 }
-{
-    State {
-        marked: false,
-        least: 1,
-        fs_id: BlockId([0x11; 16]),
-        key_salt: [0x22; 32],
-        key_digest: [0x33; 32],
-        client: 7,
-        known,
+/// A record by its name or its bytes, in which bytes are set: from where, to where, and to what.
+fn record(alloc: Global, rest: &str) -> Result<Vec<u8>, Fail> {
+    let [name, from, to, byte, ..] = words_of(rest);
+    let whole = match name {
+        "older" => OLDER,
+        "newer" => NEWER,
+        _ => name,
+    };
+    let mut bytes = bytes_of(alloc, whole)?;
+    let (from, to) = (number(from), number(to));
+    let byte: u8 = byte.parse().unwrap_or(0);
+    for (i, old) in bytes.iter_mut().enumerate() {
+        if from <= i && i < to {
+            *old = byte;
+        }
     }
+    Ok(bytes)
+}
+
+/// What a record tells, and the records of both forms of that.
+#[derive(Drop)]
+struct Reading {
+    state: State,
+    entries: usize,
+    newer: Vec<u8>,
+    older: Vec<u8>,
+}
+
+/// Reads a record. Form 1 has no record of another least format than 1.
+fn read(alloc: Global, bytes: &[u8]) -> Result<Reading, StateError> {
+    let (state, list) = decode(alloc, bytes)?;
+    let newer = encode(alloc, &state, &list)?;
+    let older = if state.least == 1 {
+        encode_form1(alloc, &state, &list)?
+    } else {
+        Vec::new(alloc)
+    };
+    Ok(Reading {
+        state,
+        entries: list.len(),
+        newer,
+        older,
+    })
+}
+
+fn is_refused(alloc: Global, bytes: &[u8]) -> bool {
+    matches!(read(alloc, bytes), Err(StateError::BadState))
+}
+
+/// The version of an id, and whether it is live.
+fn life_of(alloc: Global, known: &Known, id: &BlockId) -> Result<String, Fail> {
+    match known.version(id) {
+        Some(version) => {
+            let life = if known.is_live(id) { "live" } else { "dead" };
+            Ok(format!(in alloc; "{version} {life}")?)
+        }
+        None => say(alloc, "unknown"),
+    }
+}
+
+/// Whether it is written as it was, and a record of form 1 in form 2 as well.
+fn is_written(alloc: Global, reading: &Reading, bytes: &[u8], name: &str) -> Result<bool, Fail> {
+    Ok(if name == "older" {
+        let newer = bytes_of(alloc, NEWER)?;
+        reading.older.as_slice() == bytes && reading.newer.as_slice() == newer.as_slice()
+    } else {
+        reading.newer.as_slice() == bytes
+    })
+}
+
+/// The least format, the client, how many blocks and entries there are, and what blocks 1 and 2 are.
+fn told_of(alloc: Global, reading: &Reading) -> Result<String, Fail> {
+    let state = &reading.state;
+    let one = life_of(alloc, &state.known, &ONE)?;
+    let two = life_of(alloc, &state.known, &BlockId([2; 16]))?;
+    let (blocks, entries) = (state.known.len(), reading.entries);
+    Ok(format!(in alloc;
+        "least {}, client {}, {blocks} blocks, {entries} entries, {one}, {two}",
+        state.least, state.client
+    )?)
+}
+
+/// What a record tells that is written again as it was.
+pub(crate) fn told(alloc: Global, rest: &str) -> Result<String, Fail> {
+    let bytes = record(alloc, rest)?;
+    let reading = match read(alloc, &bytes) {
+        Ok(reading) => reading,
+        Err(StateError::BadState) => return say(alloc, "refused"),
+        Err(StateError::Memory) => return say(alloc, "memory"),
+    };
+    if is_written(alloc, &reading, &bytes, rest)? {
+        told_of(alloc, &reading)
+    } else {
+        say(alloc, "it is written otherwise")
+    }
+}
+
+/// Whether no front of a record is one, nor all of it with a byte behind.
+pub(crate) fn other_ends(alloc: Global, rest: &str) -> Result<String, Fail> {
+    let mut bytes = record(alloc, rest)?;
+    for len in 0..bytes.len() {
+        if !is_refused(alloc, &bytes[..len]) {
+            return Err(Fail::new(format_args!("{len} bytes are read")));
+        }
+    }
+    bytes.push(0)?;
+    say(
+        alloc,
+        if is_refused(alloc, &bytes) {
+            "refused"
+        } else {
+            "read"
+        },
+    )
 }
 
 /// The version that a raise gives, if the id isn't zero or dead.
@@ -93,371 +145,147 @@ fn raise(known: &mut Known, id: &BlockId) -> Option<Result<u64, Spent>> {
     Some(known.raise(id))
 }
 
-/// Whether the id is raised to this version.
-fn rises(known: &mut Known, id: &BlockId, version: u64) -> bool {
-    raise(known, id) == Some(Ok(version))
+/// What block 1 is where its version can't be raised.
+pub(crate) fn spent(alloc: Global, rest: &str) -> Result<String, Fail> {
+    let bytes = record(alloc, rest)?;
+    let mut reading = read(alloc, &bytes)?;
+    if raise(&mut reading.state.known, &ONE) == Some(Err(Spent)) {
+        life_of(alloc, &reading.state.known, &ONE)
+    } else {
+        say(alloc, "it rises")
+    }
 }
 
-fn bury(known: &mut Known, id: &BlockId) {
-    if known.is_live(id) {
-        known.bury(id);
+/// Whether an id of sixteen such bytes is raised to the version that a step says, or dies.
+fn is_taken(known: &mut Known, step: &str) -> bool {
+    let (digits, what) = step.split_once(':').unwrap_or((step, ""));
+    let [byte] = array::<1>(digits);
+    let id = BlockId([byte; 16]);
+    if what != "dead" {
+        return raise(known, &id) == Some(Ok(what.parse().unwrap_or(0)));
     }
+    if known.is_live(&id) {
+        known.bury(&id);
+        return true;
+    }
+    false
 }
 
 /// The record of these blocks without a list.
-fn written(alloc: Global, known: Known) -> Option<Vec<u8>> {
-    encode(alloc, &state_of(known), &[]).ok()
+fn written(alloc: Global, known: Known) -> Result<String, Fail> {
+    let state = State {
+        marked: false,
+        least: 1,
+        fs_id: BlockId([0x11; 16]),
+        key_salt: [0x22; 32],
+        key_digest: [0x33; 32],
+        client: 7,
+        known,
+    };
+    let bytes = encode(alloc, &state, &[])?;
+    hex_of(alloc, &bytes)
 }
 
-/// The record of form 2 of what this record tells.
-fn written_again(alloc: Global, bytes: &[u8]) -> Option<Vec<u8>> {
-    let (state, list) = decode(alloc, bytes).ok()?;
-    encode(alloc, &state, &list).ok()
-}
-
-/// The record of form 1, if its least format is 1.
-fn written_as_older(alloc: Global, bytes: &[u8]) -> Option<Vec<u8>> {
-    let (state, list) = decode(alloc, bytes).ok()?;
-    if state.least != 1 {
-        return None;
+/// The live ids, one behind another, or none.
+fn live_ids(alloc: Global, known: &Known) -> Result<String, Fail> {
+    let ids = known.live_ids(alloc)?;
+    if ids.is_empty() {
+        return say(alloc, "none");
     }
-    encode_form1(alloc, &state, &list).ok()
-}
-
-/// What a record tells: its least format, its client, how many blocks and how many entries it has.
-fn told(alloc: Global, bytes: &[u8]) -> Option<(u8, u32, usize, usize)> {
-    let (state, list) = decode(alloc, bytes).ok()?;
-    Some((state.least, state.client, state.known.len(), list.len()))
-}
-
-/// What it tells of an id: its version, and whether it is live.
-fn told_of(alloc: Global, bytes: &[u8], id: [u8; 16]) -> Option<(Option<u64>, bool)> {
-    let (state, _list) = decode(alloc, bytes).ok()?;
-    let id = BlockId(id);
-    Some((state.known.version(&id), state.known.is_live(&id)))
-}
-
-/// The record of form 2 with the least format 2.
-fn full_record_of_least_2(alloc: Global) -> Option<Vec<u8>> {
-    Some(changed(full_record(alloc)?, 20, 21, 2))
-}
-
-/// Whether the full record of either form tells its version, its dead block and its list, with this least format.
-fn tells_all(alloc: Global, bytes: &Option<Vec<u8>>, least: u8) -> bool {
-    match bytes {
-        Some(bytes) => {
-            told(alloc, bytes) == Some((least, 7, 2, 3))
-                && told_of(alloc, bytes, ONE) == Some((Some(259), true))
-                && told_of(alloc, bytes, [2; 16]) == Some((Some(2), false))
-        }
-        None => false,
+    let mut bytes = Vec::new(alloc);
+    for id in &ids {
+        bytes.extend_from_slice(&id.0)?;
     }
+    hex_of(alloc, &bytes)
 }
 
-/// Whether the record of form 2 of what the first tells is the second.
-fn is_written_as(alloc: Global, bytes: &Option<Vec<u8>>, wanted: &Option<Vec<u8>>) -> bool {
-    match bytes {
-        Some(bytes) => are_same(&written_again(alloc, bytes), wanted),
-        None => false,
-    }
-}
-
-/// Whether a record of form 1 is written again in its form.
-fn is_written_as_older(alloc: Global, bytes: &Option<Vec<u8>>) -> bool {
-    match bytes {
-        Some(older) => are_same(&written_as_older(alloc, older), bytes),
-        None => false,
-    }
-}
-
-fn is_told(alloc: Global, bytes: &Option<Vec<u8>>, wanted: (u8, u32, usize, usize)) -> bool {
-    match bytes {
-        Some(bytes) => told(alloc, bytes) == Some(wanted),
-        None => false,
-    }
-}
-
-#[test]
-fn empty_record_has_121_bytes(rt: HostRuntime) {
-    let bytes = written(rt.alloc(), Known::new(rt.alloc()));
-    assert!(rt; has_len(&bytes, 121));
-    assert!(rt; are_same(&bytes, &record(rt.alloc(), HEAD, NOTHING)));
-    assert!(rt; is_told(rt.alloc(), &bytes, (1, 7, 0, 0)));
-}
-
-/// A block that was raised once.
-fn one_block(alloc: Global) -> Option<Known> {
+/// After these steps the record, the live ids, what the last id is, or the first fresh one from there on.
+pub(crate) fn known(alloc: Global, word: &str, steps: &str) -> Result<String, Fail> {
     let mut known = Known::new(alloc);
-    if rises(&mut known, &BlockId(ONE), 1) {
-        Some(known)
-    } else {
-        None
-    }
-}
-
-fn one_block_written(alloc: Global) -> Option<Vec<u8>> {
-    written(alloc, one_block(alloc)?)
-}
-
-#[test]
-fn record_of_one_block_has_146_bytes(rt: HostRuntime) {
-    let bytes = one_block_written(rt.alloc());
-    assert!(rt; has_len(&bytes, 146));
-    assert!(rt; are_same(&bytes, &record(rt.alloc(), HEAD, ONE_BLOCK)));
-}
-
-#[test]
-fn record_with_a_list_is_read_and_written_again(rt: HostRuntime) {
-    let bytes = full_record(rt.alloc());
-    assert!(rt; tells_all(rt.alloc(), &bytes, 1));
-    assert!(rt; is_written_as(rt.alloc(), &bytes, &bytes));
-}
-
-#[test]
-fn record_of_form_1_is_read_with_least_format_1(rt: HostRuntime) {
-    let bytes = full_older_record(rt.alloc());
-    assert!(rt; tells_all(rt.alloc(), &bytes, 1));
-    assert!(rt; is_written_as(rt.alloc(), &bytes, &full_record(rt.alloc())));
-    assert!(rt; is_written_as_older(rt.alloc(), &bytes));
-}
-
-#[test]
-fn least_format_2_is_read_from_its_byte(rt: HostRuntime) {
-    let bytes = full_record_of_least_2(rt.alloc());
-    assert!(rt; tells_all(rt.alloc(), &bytes, 2));
-    assert!(rt; is_written_as(rt.alloc(), &bytes, &bytes));
-}
-
-/// From where to where a byte of form 1 is set, and what is then wrong.
-const WRONG: &str = "0 1 67 other magic bytes
-19 20 2 a mark of 2
-100 101 0 client 0
-104 105 3 more blocks than there are
-104 112 255 2^64 - 1 blocks
-112 128 0 a zero id
-128 130 0 version 0
-136 137 2 neither live nor dead
-137 153 1 an id twice
-137 138 0 ids out of order
-136 137 0 bytes for a dead id
-161 162 1 a removal for a live id
-162 163 4 more entries than there are
-170 171 2 a name of another kind
-178 179 0 the configuration after itself
-179 180 9 an unknown id
-196 197 255 a longer file than there is
-202 218 1 an entry twice";
-
-/// From where to where, and to what a row sets bytes.
-fn parts(row: &str) -> Option<(usize, usize, u8)> {
-    let (from, rest) = row.split_once(' ')?;
-    let (to, rest) = rest.split_once(' ')?;
-    let (byte, _) = rest.split_once(' ')?;
-    Some((from.parse().ok()?, to.parse().ok()?, byte.parse().ok()?))
-}
-
-fn changed(mut bytes: Vec<u8>, from: usize, to: usize, byte: u8) -> Vec<u8> {
-    for (i, old) in bytes.iter_mut().enumerate() {
-        if from <= i && i < to {
-            *old = byte;
+    for step in steps.split(' ') {
+        if step != "-" && !is_taken(&mut known, step) {
+            return Err(Fail::new(format_args!("not so: {step}")));
         }
     }
-    bytes
-}
-
-fn is_refused(alloc: Global, bytes: &[u8]) -> bool {
-    matches!(decode(alloc, bytes), Err(StateError::BadState))
-}
-
-/// Whether a record in which these bytes are set is refused.
-fn is_refused_with(
-    alloc: Global,
-    bytes: Option<Vec<u8>>,
-    from: usize,
-    to: usize,
-    byte: u8,
-) -> bool {
-    match bytes {
-        Some(bytes) => is_refused(alloc, &changed(bytes, from, to, byte)),
-        None => false,
+    match word {
+        "written" => written(alloc, known),
+        "live" => live_ids(alloc, &known),
+        "last" => life_of(alloc, &known, &LAST),
+        _ => hex_of(alloc, &known.fresh(LAST).0),
     }
 }
 
-/// In form 2 everything behind the mark stands a byte later.
-fn place_in_newer(place: usize) -> usize {
-    if place < 20 {
-        place
-    } else {
-        place.saturating_add(1)
-    }
+/// The digest of a salt and a key.
+pub(crate) fn digest(alloc: Global, rest: &str) -> Result<String, Fail> {
+    let [salt, key, ..] = words_of(rest);
+    hex_of(alloc, &key_digest(&array(salt), &array(key)))
 }
 
-fn is_refused_in_older(alloc: Global, row: &str) -> bool {
-    match parts(row) {
-        Some((from, to, byte)) => {
-            is_refused_with(alloc, full_older_record(alloc), from, to, byte)
-        }
-        None => false,
-    }
-}
+/// Records of 121 and of 146 bytes are written, and each record is read and written again as it was. Then from where to where
+/// bytes are set, to what, and what is then wrong.
+const RECORDS: &str =
+    "written - = 63727966732e6c6f63616c73746174653b3200000111111111111111111111111111111111222222222222222222222222222222222222222222222222222222222222222233333333333333333333333333333333333333333333333333333333333333330700000000000000000000000000000000000000
+state 63727966732e6c6f63616c73746174653b32000001+11*16+22*32+33*32+07000000+00*16 = least 1, client 7, 0 blocks, 0 entries, unknown, unknown
+written 01:1 = 63727966732e6c6f63616c73746174653b320000011111111111111111111111111111111122222222222222222222222222222222222222222222222222222222222222223333333333333333333333333333333333333333333333333333333333333333070000000100000000000000010101010101010101010101010101010100000000000000010000000000000000
+state newer = least 1, client 7, 2 blocks, 3 entries, 259 live, 2 dead
+state older = least 1, client 7, 2 blocks, 3 entries, 259 live, 2 dead
+state newer 20 21 2 = least 2, client 7, 2 blocks, 3 entries, 259 live, 2 dead
+other-ends older = refused
+other-ends newer = refused
+spent newer 129 137 255 = 18446744073709551615 live
+digest 0000000000000000000000000000000000000000000000000000000000000000 0000000000000000000000000000000000000000000000000000000000000000 = f5a5fd42d16a20302798ef6ed309979b43003d2320d9f0e8ea9831a92759fb4b
+state older 0 1 67 other magic bytes = refused
+state older 19 20 2 a mark of 2 = refused
+state older 100 101 0 client 0 = refused
+state older 104 105 3 more blocks than there are = refused
+state older 104 112 255 2^64 - 1 blocks = refused
+state older 112 128 0 a zero id = refused
+state older 128 130 0 version 0 = refused
+state older 136 137 2 neither live nor dead = refused
+state older 137 153 1 an id twice = refused
+state older 137 138 0 ids out of order = refused
+state older 136 137 0 bytes for a dead id = refused
+state older 161 162 1 a removal for a live id = refused
+state older 162 163 4 more entries than there are = refused
+state older 170 171 2 a name of another kind = refused
+state older 178 179 0 the configuration after itself = refused
+state older 179 180 9 an unknown id = refused
+state older 196 197 255 a longer file than there is = refused
+state older 202 218 1 an entry twice = refused
+state newer 0 1 67 other magic bytes = refused
+state newer 19 20 2 a mark of 2 = refused
+state newer 101 102 0 client 0 = refused
+state newer 105 106 3 more blocks than there are = refused
+state newer 105 113 255 2^64 - 1 blocks = refused
+state newer 113 129 0 a zero id = refused
+state newer 129 131 0 version 0 = refused
+state newer 137 138 2 neither live nor dead = refused
+state newer 138 154 1 an id twice = refused
+state newer 138 139 0 ids out of order = refused
+state newer 137 138 0 bytes for a dead id = refused
+state newer 162 163 1 a removal for a live id = refused
+state newer 163 164 4 more entries than there are = refused
+state newer 171 172 2 a name of another kind = refused
+state newer 179 180 0 the configuration after itself = refused
+state newer 180 181 9 an unknown id = refused
+state newer 197 198 255 a longer file than there is = refused
+state newer 203 219 1 an entry twice = refused
+state newer 20 21 0 least format 0 = refused
+state newer 20 21 3 least format 3 = refused
+state newer 20 21 255 least format 255 = refused";
 
 #[test]
-fn every_other_text_of_form_1_is_refused(rt: HostRuntime) -> Result<(), Fail> {
-    for row in WRONG.split("\n") {
-        if !is_refused_in_older(rt.alloc(), row) {
-            return Err(not_so(row));
-        }
-    }
-    Ok(())
+fn records_are_read_or_refused(rt: HostRuntime) -> Result<(), Fail> {
+    tell(&rt, RECORDS)
 }
 
-/// The same in form 2 of what is wrong in form 1.
-fn is_refused_in_newer(alloc: Global, row: &str) -> bool {
-    match parts(row) {
-        Some((from, to, byte)) => {
-            let last = place_in_newer(to.saturating_sub(1)).saturating_add(1);
-            is_refused_with(alloc, full_record(alloc), place_in_newer(from), last, byte)
-        }
-        None => false,
-    }
-}
+/// Steps raise an id of sixteen such bytes to a version, or let it die.
+const KNOWN: &str = "last ff:1 ff:2 ff:dead = 2 dead
+fresh ff:1 ff:2 ff:dead = 00000000000000000000000000000001
+live - = none
+live 07:1 ff:1 01:1 80:1 03:1 ff:dead 03:dead = 010101010101010101010101010101010707070707070707070707070707070780808080808080808080808080808080";
 
 #[test]
-fn every_other_text_of_form_2_is_refused(rt: HostRuntime) -> Result<(), Fail> {
-    for row in WRONG.split("\n") {
-        if !is_refused_in_newer(rt.alloc(), row) {
-            return Err(not_so(row));
-        }
-    }
-    Ok(())
-}
-
-/// Whether a record of form 2 with this least format is refused.
-fn is_least_refused(alloc: Global, least: u8) -> bool {
-    is_refused_with(alloc, full_record(alloc), 20, 21, least)
-}
-
-#[test]
-fn every_other_least_format_is_refused(rt: HostRuntime) {
-    for least in [0, 3, 0xff] {
-        assert!(rt; is_least_refused(rt.alloc(), least), "{least}");
-    }
-}
-
-/// Whether no front of these bytes is a record.
-fn are_ends_refused(alloc: Global, bytes: &[u8]) -> bool {
-    for len in 0..bytes.len() {
-        if !is_refused(alloc, &bytes[..len]) {
-            return false;
-        }
-    }
-    true
-}
-
-/// Whether neither the front bytes are a record, nor one more than all.
-fn is_every_other_end_refused(alloc: Global, bytes: Option<Vec<u8>>) -> bool {
-    match bytes {
-        Some(mut bytes) => {
-            are_ends_refused(alloc, &bytes) && bytes.push(0).is_ok() && is_refused(alloc, &bytes)
-        }
-        None => false,
-    }
-}
-
-#[test]
-fn every_other_end_is_refused(rt: HostRuntime) {
-    assert!(rt; is_every_other_end_refused(rt.alloc(), full_older_record(rt.alloc())));
-    assert!(rt; is_every_other_end_refused(rt.alloc(), full_record(rt.alloc())));
-}
-
-const LAST: BlockId = BlockId([0xff; 16]);
-
-/// Whether the last id rises twice, and is then used and dead.
-fn rises_and_dies(known: &mut Known) -> bool {
-    if !rises(known, &LAST, 1) || !rises(known, &LAST, 2) {
-        return false;
-    }
-    bury(known, &LAST);
-    known.version(&LAST) == Some(2) && !known.is_live(&LAST)
-}
-
-#[test]
-fn versions_rise_and_dead_ids_stay_used(rt: HostRuntime) {
-    let mut known = Known::new(rt.alloc());
-    assert!(rt; rises_and_dies(&mut known));
-    assert!(rt; known.fresh(LAST) == BlockId([0, 0, 0, 0, 0, 0, 0, 0, 0, 0, 0, 0, 0, 0, 0, 1]));
-}
-
-/// Whether a record's first block can't be raised, and stays at the last version.
-fn is_spent(alloc: Global, bytes: &[u8]) -> bool {
-    match decode(alloc, bytes) {
-        Ok((mut state, _list)) => {
-            raise(&mut state.known, &BlockId(ONE)) == Some(Err(Spent))
-                && state.known.version(&BlockId(ONE)) == Some(u64::MAX)
-        }
-        Err(_) => false,
-    }
-}
-
-/// The full record with its first block at the last version.
-fn last_version(alloc: Global) -> Option<Vec<u8>> {
-    Some(changed(full_record(alloc)?, 129, 137, 0xff))
-}
-
-fn is_last_version_spent(alloc: Global) -> bool {
-    match last_version(alloc) {
-        Some(bytes) => is_spent(alloc, &bytes),
-        None => false,
-    }
-}
-
-#[test]
-fn last_version_is_spent(rt: HostRuntime) {
-    assert!(rt; is_last_version_spent(rt.alloc()));
-}
-
-/// The digest of a salt and a key that are zeros.
-const OF_ZEROS: &str = "f5a5fd42d16a20302798ef6ed309979b43003d2320d9f0e8ea9831a92759fb4b";
-
-fn zeros_digest(alloc: Global) -> Option<Vec<u8>> {
-    key_digest(&[0; 32], &[0; 32]).to_vec(alloc).ok()
-}
-
-#[test]
-fn digest_is_that_of_salt_and_key(rt: HostRuntime) {
-    assert!(rt; are_same(&zeros_digest(rt.alloc()), &decoded(rt.alloc(), OF_ZEROS)));
-}
-
-/// Five blocks, of which two are dead.
-fn some_dead(alloc: Global) -> Option<Known> {
-    let mut known = Known::new(alloc);
-    for byte in [7, 0xff, 1, 0x80, 3] {
-        if !rises(&mut known, &BlockId([byte; 16]), 1) {
-            return None;
-        }
-    }
-    bury(&mut known, &BlockId([0xff; 16]));
-    bury(&mut known, &BlockId([3; 16]));
-    Some(known)
-}
-
-fn has_live_ids(alloc: Global, known: &Known, wanted: &[BlockId]) -> bool {
-    match known.live_ids(alloc) {
-        Ok(ids) => ids.as_slice() == wanted,
-        Err(_) => false,
-    }
-}
-
-fn lack_the_dead(alloc: Global) -> bool {
-    let wanted = [BlockId([1; 16]), BlockId([7; 16]), BlockId([0x80; 16])];
-    match some_dead(alloc) {
-        Some(known) => has_live_ids(alloc, &known, &wanted),
-        None => false,
-    }
-}
-
-#[test]
-fn live_ids_rise_and_lack_the_dead(rt: HostRuntime) {
-    assert!(rt; has_live_ids(rt.alloc(), &Known::new(rt.alloc()), &[]));
-    assert!(rt; lack_the_dead(rt.alloc()));
+fn versions_rise_and_dead_ids_stay_used(rt: HostRuntime) -> Result<(), Fail> {
+    tell(&rt, KNOWN)
 }

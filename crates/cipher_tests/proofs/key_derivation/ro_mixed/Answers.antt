@@ -1,5 +1,0 @@
-use Rattle.std.proofs.Common.{refl}
-use Rattle.cipher_tests.proofs.key_derivation.ro_mixed.Goals as goal
-
-pub ro_mix-requires-clause-power : goal.ro_mix-requires-clause-power
-ro_mix-requires-clause-power c = (4, refl)
