@@ -33,6 +33,8 @@ mod long_passwords;
 #[cfg(test)]
 mod orders;
 #[cfg(test)]
+mod refused;
+#[cfg(test)]
 mod sessions;
 #[cfg(test)]
 mod setup;
