@@ -28,3 +28,5 @@ mod seal_counts;
 mod sealed_stores;
 #[cfg(test)]
 mod short_drafts;
+#[cfg(test)]
+mod steps;

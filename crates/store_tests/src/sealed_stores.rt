@@ -1,272 +1,272 @@
 // Files of both formats that are sealed, changed and opened.
-ghost use Rattle.std.specs.Prelude.{◌≡◌, IfOk};
+ghost use Rattle.std.specs.Prelude.{IfOk};
 ghost use Rattle.integrity_store.specs.sealed_store.Stores.{IsIntact, block_size_of, cipher_of};
 
 use crate::integrity_files::{Sealed, put_draft, sealed_file, sealed_over};
+use crate::steps::is_answered;
 use aes_gcm::Aes256Gcm;
-use block_id::{BlockId, Why};
+use block_id::BlockId;
 use integrity_store::sealed_store::Seen;
 use memory_outside::MemoryVault;
 use outside::{Change, FileName, Pending, Vault};
 use seal_api::Sealer;
-use std::alloc::Global;
+use std::alloc::{AllocError, Global};
+use std::mem;
 use std::test::Fail;
 
+/// The block that is sealed, with fives as its plaintext.
 const ID: BlockId = BlockId([7; 16]);
 
 const PLAIN: [u8; 80] = [5; 80];
 
-fn sealed(alloc: Global) -> Result<Vec<u8>, Fail> {
-    sealed_file(alloc, &ID, &PLAIN)
-}
+/// Each line is a step with what it answers, or a title.
+///
+///     over 7 format-1 turn:15   begins with a directory where the file of block 7 is the one of this format, one bit turned
+///     over draft                begins with a file of format 2 that waits, which was put twice
+///     get 7 2 80                looks at block 7 where the least format is 2 and it is asked for at most 80 bytes
+///     closed                    looks at the first file of the directory, and begins over an empty one
+const STORIES: &str = "\
+# a file of format 2 opens
+over 7 format-2
+closed = 128 bytes from cryfs;block;0\0\x02\0 as sealed
+over 7 format-2
+get 7 1 all = 80 fives
+get 7 2 all = 80 fives
+# one of format 1 opens while the least format is 1
+over 7 format-1
+closed = 128 bytes from cryfs;block;0\0\x01\0
+over 7 format-1
+get 7 1 all = 80 fives
+get 7 2 all = old format
+# a file under the name of another block opens in format 1 alone
+over 8 format-2
+get 8 1 all = not opened
+get 8 2 all = not opened
+over 8 format-1
+get 8 1 all = 80 fives
+get 8 2 all = old format
+# neither format opens as the other; before the seal is tried an old format is told, also of a file that does not open
+over 7 format-2 say-format:1
+get 7 1 all = not opened
+get 7 2 all = old format
+over 7 format-1 say-format:2
+get 7 1 all = not opened
+get 7 2 all = not opened
+# other prefixes are told from seals that do not open
+over 7 format-2 turn:15
+get 7 1 all = bad prefix
+get 7 2 all = bad prefix
+over 7 format-2 turn:16
+get 7 1 all = not opened
+get 7 2 all = not opened
+over 7 format-2 turn:127
+get 7 1 all = not opened
+get 7 2 all = not opened
+# files that are absent, too long or too short
+over nothing
+sizes = IVs of 16 bytes, files of 128
+get 7 2 0 = absent
+over 7 format-2 length:129
+get 7 1 all = bad length
+get 7 2 all = bad length
+over 7 format-2 length:127
+get 7 1 all = bad length
+get 7 2 all = bad length
+# a draft is seen as the file that it is sealed to
+over draft
+waiting = 1 with 128 bytes
+get 7 2 80 = 80 fives
+get 7 3 80 = old format
+write
+waiting = 0 with 0 bytes
+get 7 2 80 = 80 fives
+get 7 3 80 = old format
+closed = 128 bytes from cryfs;block;0\0\x02\0 as sealed
+# no more than the front of a draft is opened
+over draft
+get 7 2 3 = 3 fives
+get 7 2 0 = 0 fives
+get 7 2 81 = 80 fives
+# no more than the front of a file is opened
+over draft
+write
+get 7 2 3 = 3 fives
+get 7 2 0 = 0 fives
+get 7 2 81 = 80 fives
+# no front of a file that ends otherwise is opened
+over 7 format-2 turn:127
+get 7 2 3 = not opened
+";
 
-/// The same in format 1.
+/// The file in format 1.
 fn sealed_alone(alloc: Global) -> Result<Vec<u8>, Fail> {
     let store = sealed_over(alloc, MemoryVault::new(alloc));
     Ok(store.seal_form1(alloc, &ID, &PLAIN, &[9; 16])?)
 }
 
-/// What is wrong with what a store saw, or None where it is the plaintext.
-fn flaw_in(seen: Seen) -> Result<Option<Why>, Fail> {
-    match seen {
-        Seen::Absent => Ok(Some(Why::Missing)),
-        Seen::BadLength => Ok(Some(Why::BadLength)),
-        Seen::BadPrefix => Ok(Some(Why::BadPrefix)),
-        Seen::OldFormat => Ok(Some(Why::OldFormat)),
-        Seen::NotOpened => Ok(Some(Why::NotOpened)),
-        Seen::Plain(plain) if plain.as_slice() == PLAIN.as_slice() => Ok(None),
-        Seen::Plain(_) => Err("another plaintext".into()),
+/// Changes a file, as in `turn:15`, `say-format:1` or `length:129`.
+fn edit(file: &mut Vec<u8>, how: &str) -> Result<(), Fail> {
+    let (what, number) = how.split_once(':').ok_or("a change, and a number")?;
+    let number: usize = number.parse().ok().ok_or("this is no number")?;
+    match what {
+        "turn" => *file.get_mut(number).ok_or("no such byte")? ^= 1,
+        "say-format" => *file.get_mut(14).ok_or("no such byte")? = if number == 1 { 1 } else { 2 },
+        _ => file.resize(number, 0)?,
     }
-}
-
-/// A store over a directory where this is the file of a block.
-fn store_of(alloc: Global, id: &BlockId, file: &[u8]) -> Result<Sealed, Fail>
-    ensures { IfOk result (λ store. IsIntact (block_size_of store) (⟦<Aes256Gcm as Sealer>⟧.iv_size (cipher_of store))) }
-{
-    let mut below = MemoryVault::new(alloc);
-    below.put(alloc, &FileName::Block(*id), file)?;
-    Ok(sealed_over(alloc, below))
-}
-
-/// What a store sees of a block where the least format is this one and it is asked for at most so many bytes.
-fn flaw_at(
-    alloc: Global,
-    store: &mut Sealed,
-    id: &BlockId,
-    least: u8,
-    most: usize,
-) -> Result<Option<Why>, Fail>
-    requires { IsIntact (block_size_of store.old) (⟦<Aes256Gcm as Sealer>⟧.iv_size (cipher_of store.old)) }
-    ensures { IsIntact (block_size_of store.new) (⟦<Aes256Gcm as Sealer>⟧.iv_size (cipher_of store.new)) }
-{
-    flaw_in(store.get_plain(alloc, id, least, most)?)
-}
-
-/// What a store sees where this is the file of a block: where the least format is 1, and where it is 2.
-fn flaws_as(alloc: Global, id: &BlockId, file: &[u8]) -> Result<[Option<Why>; 2], Fail> {
-    let mut store = store_of(alloc, id, file)?;
-    let first = flaw_at(alloc, &mut store, id, 1, usize::MAX)?;
-    Ok([first, flaw_at(alloc, &mut store, id, 2, usize::MAX)?])
-}
-
-fn flaws(alloc: Global, file: &[u8]) -> Result<[Option<Why>; 2], Fail> {
-    flaws_as(alloc, &ID, file)
-}
-
-/// The same where this is the file of another block.
-fn flaws_elsewhere(alloc: Global, file: &[u8]) -> Result<[Option<Why>; 2], Fail> {
-    flaws_as(alloc, &BlockId([8; 16]), file)
-}
-
-#[test]
-fn opens_what_it_sealed(rt: HostRuntime) -> Result<(), Fail> {
-    let file = sealed(rt.alloc())?;
-    assert!(rt; file.len() == 128);
-    assert!(rt; file.starts_with(b"cryfs;block;0\0\x02\0"));
-    assert!(rt; flaws(rt.alloc(), &file)? == [None, None]);
     Ok(())
 }
 
-#[test]
-fn opens_a_file_of_format_1_while_the_least_format_is_1(rt: HostRuntime) -> Result<(), Fail> {
-    let file = sealed_alone(rt.alloc())?;
-    assert!(rt; file.len() == 128);
-    assert!(rt; file.starts_with(b"cryfs;block;0\0\x01\0"));
-    assert!(rt; flaws(rt.alloc(), &file)? == [None, Some(Why::OldFormat)]);
-    Ok(())
-}
-
-#[test]
-fn loading_with_another_id_fails_in_format_2_alone(rt: HostRuntime) -> Result<(), Fail> {
-    let shut = Some(Why::NotOpened);
-    assert!(rt; flaws_elsewhere(rt.alloc(), &sealed(rt.alloc())?)? == [shut, shut]);
-    let alone = flaws_elsewhere(rt.alloc(), &sealed_alone(rt.alloc())?)?;
-    assert!(rt; alone == [None, Some(Why::OldFormat)]);
-    Ok(())
-}
-
-/// What a store sees of a file with this byte at a place.
-fn flaws_with(
-    alloc: Global,
-    mut file: Vec<u8>,
-    place: usize,
-    byte: u8,
-) -> Result<[Option<Why>; 2], Fail> {
-    *file.get_mut(place).ok_or("no such byte")? = byte;
-    flaws(alloc, &file)
-}
-
-/// Before the seal is tried an old format is told, also of a file that doesn't open.
-#[test]
-fn neither_format_opens_as_the_other(rt: HostRuntime) -> Result<(), Fail> {
-    let shut = Some(Why::NotOpened);
-    let newer = flaws_with(rt.alloc(), sealed(rt.alloc())?, 14, 1)?;
-    assert!(rt; newer == [shut, Some(Why::OldFormat)]);
-    let older = flaws_with(rt.alloc(), sealed_alone(rt.alloc())?, 14, 2)?;
-    assert!(rt; older == [shut, shut]);
-    Ok(())
-}
-
-/// The sealed file with one byte changed.
-fn changed(alloc: Global, at: usize) -> Result<Vec<u8>, Fail> {
-    let mut file = sealed(alloc)?;
-    let byte = file.get_mut(at).ok_or("no such byte")?;
-    *byte ^= 1;
+/// The file of a format, with these changes.
+fn file_of(alloc: Global, words: &str) -> Result<Vec<u8>, Fail> {
+    let mut file = Vec::new(alloc);
+    for word in words.split(' ') {
+        match word {
+            "format-1" => file = sealed_alone(alloc)?,
+            "format-2" => file = sealed_file(alloc, &ID, &PLAIN)?,
+            _ => edit(&mut file, word)?,
+        }
+    }
     Ok(file)
 }
 
-/// What a store sees of that.
-fn flaws_changed(alloc: Global, at: usize) -> Result<[Option<Why>; 2], Fail> {
-    flaws(alloc, &changed(alloc, at)?)
-}
-
-#[test]
-fn tells_other_prefixes_from_seals_that_do_not_open(rt: HostRuntime) -> Result<(), Fail> {
-    for (at, why) in [
-        (15, Why::BadPrefix),
-        (16, Why::NotOpened),
-        (127, Why::NotOpened),
-    ] {
-        assert!(rt; flaws_changed(rt.alloc(), at)? == [Some(why); 2], "{at}");
+/// A directory with a block's file, as in `7 format-2 turn:15`, or with none.
+fn directory(alloc: Global, how: &str) -> Result<MemoryVault, Fail> {
+    let mut below = MemoryVault::new(alloc);
+    if let Some((number, words)) = how.split_once(' ') {
+        let number = number.parse().ok().ok_or("this is no block")?;
+        let name = FileName::Block(BlockId([number; 16]));
+        below.put(alloc, &name, &file_of(alloc, words)?)?;
     }
-    Ok(())
+    Ok(below)
 }
 
-/// What a store sees of the sealed file as it has so many bytes.
-fn flaws_resized(alloc: Global, len: usize) -> Result<[Option<Why>; 2], Fail> {
-    let mut file = sealed(alloc)?;
-    file.resize(len, 0)?;
-    flaws(alloc, &file)
-}
-
-/// What an empty store sees.
-fn flaw_in_none(alloc: Global) -> Result<Option<Why>, Fail> {
-    let mut store = sealed_over(alloc, MemoryVault::new(alloc));
-    flaw_at(alloc, &mut store, &ID, 2, 0)
-}
-
-#[test]
-fn sees_files_that_are_absent_too_long_or_too_short(rt: HostRuntime) -> Result<(), Fail> {
-    let store = sealed_over(rt.alloc(), MemoryVault::new(rt.alloc()));
-    assert!(rt; (store.iv_len(), store.block_size()) == (16, 128));
-    assert!(rt; flaw_in_none(rt.alloc())? == Some(Why::Missing));
-    assert!(rt; flaws_resized(rt.alloc(), 129)? == [Some(Why::BadLength); 2]);
-    assert!(rt; flaws_resized(rt.alloc(), 127)? == [Some(Why::BadLength); 2]);
-    Ok(())
-}
-
-/// A store in which the file of the block waits, which was put twice.
-fn drafted(alloc: Global) -> Result<Sealed, Fail>
+/// A store over such a directory, or with a draft that was put twice.
+fn begun(alloc: Global, how: &str) -> Result<Sealed, Fail>
     ensures { IfOk result (λ store. IsIntact (block_size_of store) (⟦<Aes256Gcm as Sealer>⟧.iv_size (cipher_of store))) }
 {
-    let mut store = sealed_over(alloc, MemoryVault::new(alloc));
-    put_draft(alloc, &mut store, &ID, &[4; 80])?;
-    put_draft(alloc, &mut store, &ID, &PLAIN)?;
+    let mut store = sealed_over(alloc, directory(alloc, how)?);
+    if how == "draft" {
+        put_draft(alloc, &mut store, &ID, &[4; 80])?;
+        put_draft(alloc, &mut store, &ID, &PLAIN)?;
+    }
     Ok(store)
 }
 
-/// Whether the first file of a directory has these bytes.
-fn is_first(below: &MemoryVault, file: &[u8]) -> bool {
+/// The block, the least format and the number of bytes of a question, as in `7 2 80` or `7 2 all`.
+fn question(asked: &str) -> Option<(BlockId, u8, usize)> {
+    let (block, rest) = asked.split_once(' ')?;
+    let (least, most) = rest.split_once(' ')?;
+    let most = match most {
+        "all" => usize::MAX,
+        _ => most.parse().ok()?,
+    };
+    Some((
+        BlockId([block.parse().ok()?; 16]),
+        least.parse().ok()?,
+        most,
+    ))
+}
+
+/// What a store sees of a block.
+fn look(alloc: Global, store: &mut Sealed, asked: &str) -> Result<Seen, Fail>
+    requires { IsIntact (block_size_of store.old) (⟦<Aes256Gcm as Sealer>⟧.iv_size (cipher_of store.old)) }
+    ensures { IsIntact (block_size_of store.new) (⟦<Aes256Gcm as Sealer>⟧.iv_size (cipher_of store.new)) }
+{
+    let (id, least, most) = question(asked).ok_or("a block, a format and a number")?;
+    Ok(store.get_plain(alloc, &id, least, most)?)
+}
+
+/// Writes what waits.
+fn write(alloc: Global, store: &mut Sealed) -> Result<(), Fail>
+    requires { IsIntact (block_size_of store.old) (⟦<Aes256Gcm as Sealer>⟧.iv_size (cipher_of store.old)) }
+    ensures { IsIntact (block_size_of store.new) (⟦<Aes256Gcm as Sealer>⟧.iv_size (cipher_of store.new)) }
+{
+    Ok(store.write_out(alloc)?)
+}
+
+/// What is seen, in words.
+fn in_words(alloc: Global, seen: Seen) -> Result<String, AllocError> {
+    let words = match seen {
+        Seen::Absent => "absent",
+        Seen::BadLength => "bad length",
+        Seen::BadPrefix => "bad prefix",
+        Seen::OldFormat => "old format",
+        Seen::NotOpened => "not opened",
+        Seen::Plain(plain) if PLAIN.starts_with(plain.as_slice()) => {
+            return format!(in alloc; "{} fives", plain.len());
+        }
+        Seen::Plain(_) => "another plaintext",
+    };
+    String::from_str(alloc, words)
+}
+
+/// The first file of a directory: its length, its first bytes, and whether it is what a store seals.
+fn first_file(alloc: Global, below: &MemoryVault) -> Result<String, Fail> {
+    let sealed = sealed_file(alloc, &ID, &PLAIN)?;
     match below.files().first() {
         Some(
             Pending {
                 name: _,
-                change: Change::Bytes(written),
+                change: Change::Bytes(file),
             },
-        ) => written.as_slice() == file,
-        _ => false,
-    }
-}
-
-/// What a store sees of the block, all of it: where the least format is 2, and where it is 3.
-fn flaws_at_most(alloc: Global, store: &mut Sealed) -> Result<[Option<Why>; 2], Fail>
-    requires { IsIntact (block_size_of store.old) (⟦<Aes256Gcm as Sealer>⟧.iv_size (cipher_of store.old)) }
-    ensures { IsIntact (block_size_of store.new) (⟦<Aes256Gcm as Sealer>⟧.iv_size (cipher_of store.new)) }
-{
-    let first = flaw_at(alloc, store, &ID, 2, 80)?;
-    Ok([first, flaw_at(alloc, store, &ID, 3, 80)?])
-}
-
-#[test]
-fn sees_a_draft_as_the_file_that_it_is_sealed_to(rt: HostRuntime) -> Result<(), Fail> {
-    let mut store = drafted(rt.alloc())?;
-    let old = Some(Why::OldFormat);
-    assert!(rt; (store.waiting(), store.buffered()) == (1, 128));
-    assert!(rt; flaws_at_most(rt.alloc(), &mut store)? == [None, old]);
-    store.write_out(rt.alloc())?;
-    assert!(rt; store.waiting() == 0);
-    assert!(rt; flaws_at_most(rt.alloc(), &mut store)? == [None, old]);
-    assert!(rt; is_first(&store.into_vault(), &sealed(rt.alloc())?));
-    Ok(())
-}
-
-/// A store over a directory to which that file was written.
-fn written(alloc: Global) -> Result<Sealed, Fail>
-    ensures { IfOk result (λ store. IsIntact (block_size_of store) (⟦<Aes256Gcm as Sealer>⟧.iv_size (cipher_of store))) }
-{
-    let mut store = drafted(alloc)?;
-    store.write_out(alloc)?;
-    Ok(store)
-}
-
-/// Whether a store gives the first bytes of the plaintext where it is asked for at most so many.
-fn is_front(alloc: Global, store: &mut Sealed, most: usize) -> Result<bool, Fail>
-    requires { IsIntact (block_size_of store.old) (⟦<Aes256Gcm as Sealer>⟧.iv_size (cipher_of store.old)) }
-    ensures { IsIntact (block_size_of store.new) (⟦<Aes256Gcm as Sealer>⟧.iv_size (cipher_of store.new)) }
-{
-    match store.get_plain(alloc, &ID, 2, most)? {
-        Seen::Plain(plain) => {
-            Ok(plain.len() == most.min(80) && PLAIN.starts_with(plain.as_slice()))
+        ) => {
+            let front = file.get(..16).ok_or("no prefix")?;
+            let front = str::from_utf8(front).unwrap_or("bytes");
+            let how = if *file == sealed { " as sealed" } else { "" };
+            Ok(format!(in alloc; "{} bytes from {front}{how}", file.len())?)
         }
-        _ => Ok(false),
+        _ => Ok(String::from_str(alloc, "no file")?),
     }
 }
 
-/// The same for three, none and 81.
-fn are_fronts(alloc: Global, mut store: Sealed) -> Result<bool, Fail>
-    requires { IsIntact (block_size_of store) (⟦<Aes256Gcm as Sealer>⟧.iv_size (cipher_of store)) }
+/// The first file of the directory. The store is over another one afterwards.
+fn closed(alloc: Global, store: &mut Sealed) -> Result<String, Fail>
+    ensures { IsIntact (block_size_of store.new) (⟦<Aes256Gcm as Sealer>⟧.iv_size (cipher_of store.new)) }
 {
-    let three = is_front(alloc, &mut store, 3)?;
-    let none = is_front(alloc, &mut store, 0)?;
-    Ok(three && none && is_front(alloc, &mut store, 81)?)
+    let next = sealed_over(alloc, MemoryVault::new(alloc));
+    let below = mem::replace(store, next).into_vault();
+    first_file(alloc, &below)
+}
+
+/// How much waits, or the sizes of a store.
+fn counted(alloc: Global, store: &Sealed, verb: &str) -> Result<String, AllocError> {
+    match verb {
+        "waiting" => { format!(in alloc; "{} with {} bytes", store.waiting(), store.buffered()) }
+        "sizes" => {
+            format!(in alloc;
+                "IVs of {} bytes, files of {}",
+                store.iv_len(),
+                store.block_size()
+            )
+        }
+        _ => Ok(String::new(alloc)),
+    }
+}
+
+/// What a step answers.
+fn answer(alloc: Global, store: &mut Sealed, step: &str) -> Result<String, Fail>
+    requires { IsIntact (block_size_of store.old) (⟦<Aes256Gcm as Sealer>⟧.iv_size (cipher_of store.old)) }
+    ensures { IsIntact (block_size_of store.new) (⟦<Aes256Gcm as Sealer>⟧.iv_size (cipher_of store.new)) }
+{
+    let (verb, rest) = step.split_once(' ').unwrap_or((step, ""));
+    match verb {
+        "over" => *store = begun(alloc, rest)?,
+        "write" => write(alloc, store)?,
+        "get" => return Ok(in_words(alloc, look(alloc, store, rest)?)?),
+        "closed" => return closed(alloc, store),
+        _ => {}
+    }
+    Ok(counted(alloc, store, verb)?)
 }
 
 #[test]
-fn opens_no_more_than_the_front_of_a_draft(rt: HostRuntime) -> Result<(), Fail> {
-    assert!(rt; are_fronts(rt.alloc(), drafted(rt.alloc())?)?);
-    Ok(())
-}
-
-#[test]
-fn opens_no_more_than_the_front_of_a_file(rt: HostRuntime) -> Result<(), Fail> {
-    assert!(rt; are_fronts(rt.alloc(), written(rt.alloc())?)?);
-    Ok(())
-}
-
-#[test]
-fn opens_no_front_of_a_file_that_ends_otherwise(rt: HostRuntime) -> Result<(), Fail> {
-    let mut store = store_of(rt.alloc(), &ID, &changed(rt.alloc(), 127)?)?;
-    let seen = store.get_plain(rt.alloc(), &ID, 2, 3)?;
-    assert!(rt; flaw_in(seen)? == Some(Why::NotOpened));
+fn files_are_seen_as_they_were_sealed(rt: HostRuntime) -> Result<(), Fail> {
+    let alloc = rt.alloc();
+    let mut store = begun(alloc, "nothing")?;
+    for line in STORIES.lines() {
+        let (step, wanted) = line.split_once(" = ").unwrap_or((line, ""));
+        let told = answer(alloc, &mut store, step)?;
+        is_answered(step, &told, wanted)?;
+    }
     Ok(())
 }
