@@ -1,125 +1,137 @@
-// The fronts of payloads, as a store in memory and changes over it tell them.
-use block_cache::store_api::{Blocks, BlocksMut, Tx};
-use block_id::BlockId;
+// The fronts of payloads, as a store in memory, changes over it and a cache tell them, and what is asked for below.
+ghost use Rattle.std.specs.Prelude.{IfOk};
+ghost use Rattle.block_cache.specs.store_api.Holdings.{IsFew};
+ghost use Rattle.block_cache.specs.store_api.Txs.{intact_in};
+
+use crate::client_steps::{Client, SEED, new_client, play};
+use crate::counted::Counted;
+use block_cache::BlockCache;
+use block_cache::store_api::{Blocks, Tx};
 use map_store::MapStore;
-use rand_pcg::Pcg32;
 use std::alloc::Global;
 use std::test::Fail;
-use store_session::put_one;
 
-pub(crate) const ID: BlockId = BlockId([1; 16]);
+/// A new block: none of it, some bytes, all, and more than it has, before and after it is loaded whole, and after it
+/// has changed. Another block has no payload.
+const CHANGING: &str = "add it abcdefghijklmnopqrstuvwxyzABCDEFGHIJKLMNOPQRSTUVWX
+commit = ok
+front it 0 = 0 of 0
+front it 1 = a
+front it 8 = abcdefgh
+front it 50 = abcdefghijklmnopqrstuvwxyzABCDEFGHIJKLMNOPQRSTUVWX
+front it 51 = abcdefghijklmnopqrstuvwxyzABCDEFGHIJKLMNOPQRSTUVWX
+load it = abcdefghijklmnopqrstuvwxyzABCDEFGHIJKLMNOPQRSTUVWX
+front it 0 = 0 of 0
+front it 1 = a
+front it 8 = abcdefgh
+front it 50 = abcdefghijklmnopqrstuvwxyzABCDEFGHIJKLMNOPQRSTUVWX
+front it 51 = abcdefghijklmnopqrstuvwxyzABCDEFGHIJKLMNOPQRSTUVWX
+put it XWVUTSRQPONMLKJIHGFEDCBAzyxwvutsrqponmlkjihgfedcba
+commit = ok
+front it 0 = 0 of 0
+front it 1 = X
+front it 8 = XWVUTSRQ
+front it 50 = XWVUTSRQPONMLKJIHGFEDCBAzyxwvutsrqponmlkjihgfedcba
+front it 51 = XWVUTSRQPONMLKJIHGFEDCBAzyxwvutsrqponmlkjihgfedcba
+front 4 8 = none
+";
 
-const ABSENT: BlockId = BlockId([4; 16]);
+/// A new block that waits among changes, and is removed again.
+const AMONG_CHANGES: &str = "add it abcdefghijklmnopqrstuvwxyzABCDEFGHIJKLMNOPQRSTUVWX
+front it 0 = 0 of 0
+front it 1 = a
+front it 8 = abcdefgh
+front it 50 = abcdefghijklmnopqrstuvwxyzABCDEFGHIJKLMNOPQRSTUVWX
+front it 51 = abcdefghijklmnopqrstuvwxyzABCDEFGHIJKLMNOPQRSTUVWX
+remove it
+front it 8 = none
+";
 
-/// Two payloads whose bytes differ.
-pub(crate) const LETTERS: [u8; 50] = *b"abcdefghijklmnopqrstuvwxyzABCDEFGHIJKLMNOPQRSTUVWX";
-
-const TURNED: [u8; 50] = *b"XWVUTSRQPONMLKJIHGFEDCBAzyxwvutsrqponmlkjihgfedcba";
-
-/// Has a block get this payload, in a batch of its own.
-pub(crate) fn give<S: BlocksMut>(
-    alloc: Global,
-    store: &mut S,
-    id: &BlockId,
-    payload: &[u8; 50],
-) -> Result<(), Fail>
-    requires { S.Blocks.meanings.intact store.old }
-    ensures { S.Blocks.meanings.intact store.new }
-{
-    put_one(
-        alloc,
-        store,
-        id,
-        payload.to_vec(alloc)?,
-        &mut Pcg32::new(1, 2),
-    )
+/// Takes these steps over an empty store in memory.
+fn play_in_memory(alloc: Global, steps: &str) -> Result<(), Fail> {
+    let mut tx = Tx::new(alloc, MapStore::new(alloc, 50), SEED);
+    let told = play(alloc, &mut tx, &mut new_client(), steps);
+    drop(tx.into_store());
+    told
 }
 
-/// Whether the front of a block, at most so many bytes, is that of this payload.
-fn is_front<S: Blocks>(
-    alloc: Global,
-    store: &mut S,
-    id: &BlockId,
-    payload: &[u8; 50],
-    most: usize,
-) -> Result<bool, Fail>
-    requires { S.meanings.intact store.old }
-    ensures { S.meanings.intact store.new }
-{
-    match store.load_front(alloc, id, most)? {
-        Some(front) => Ok(front.len() == most.min(50) && payload.starts_with(front.as_slice())),
-        None => Ok(false),
-    }
+#[test]
+fn tells_fronts_in_memory_and_of_changes(rt: HostRuntime) -> Result<(), Fail> {
+    play_in_memory(rt.alloc(), CHANGING)?;
+    play_in_memory(rt.alloc(), AMONG_CHANGES)
 }
 
-/// Whether the fronts of a block are those of this payload: none of it, some bytes, all, and more than it has.
-pub(crate) fn are_fronts<S: Blocks>(
-    alloc: Global,
-    store: &mut S,
-    id: &BlockId,
-    payload: &[u8; 50],
-) -> Result<bool, Fail>
-    requires { S.meanings.intact store.old }
-    ensures { S.meanings.intact store.new }
+type Cached = BlockCache<Counted<MapStore>>;
+
+/// No blocks, behind a cache of at most one.
+fn empty(alloc: Global) -> Result<Cached, Fail>
+    ensures intact { IfOk result (λ cache. ⟦<Cached as Blocks>⟧.meanings.intact cache) }
+    ensures few { IfOk result (λ cache. IsFew (⟦<Cached as Blocks>⟧.holdings.used cache)) }
 {
-    for most in [0, 1, 8, 50, 51] {
-        if !is_front(alloc, store, id, payload, most)? {
-            return Ok(false);
+    let below = Counted {
+        store: MapStore::new(alloc, 50),
+        loads: 0,
+    };
+    match BlockCache::new(alloc, below, 1) {
+        Ok(cache) => Ok(cache),
+        Err((_, below)) => {
+            drop(below);
+            Err("out of memory".into())
         }
     }
-    Ok(true)
 }
 
-/// Whether a block without a payload has no front either.
-pub(crate) fn has_none<S: Blocks>(alloc: Global, store: &mut S, id: &BlockId) -> Result<bool, Fail>
-    requires { S.meanings.intact store.old }
-    ensures { S.meanings.intact store.new }
+/// How many loads have reached the store below once these steps were taken.
+fn loads_after(
+    alloc: Global,
+    tx: &mut Tx<Cached>,
+    client: &mut Client,
+    steps: &str,
+) -> Result<u64, Fail>
+    requires { intact_in ⟦<Cached as Blocks>⟧.meanings ⟦<Cached as Blocks>⟧.holdings tx.old }
+    ensures { intact_in ⟦<Cached as Blocks>⟧.meanings ⟦<Cached as Blocks>⟧.holdings tx.new }
 {
-    Ok(store.load_front(alloc, id, 8)?.is_none())
+    play(alloc, tx, client, steps)?;
+    Ok(tx.store.store().loads)
 }
 
-/// Whether the fronts of a block are right before and after it is loaded whole, and after it has changed.
-pub(crate) fn follow_changes<S: BlocksMut>(alloc: Global, store: &mut S) -> Result<bool, Fail>
-    requires { S.Blocks.meanings.intact store.old }
-    ensures { S.Blocks.meanings.intact store.new }
+/// Five fronts of a new block.
+const FIVE: &str = "add it abcdefghijklmnopqrstuvwxyzABCDEFGHIJKLMNOPQRSTUVWX
+commit = ok
+front it 0 = 0 of 0
+front it 1 = a
+front it 8 = abcdefgh
+front it 50 = abcdefghijklmnopqrstuvwxyzABCDEFGHIJKLMNOPQRSTUVWX
+front it 51 = abcdefghijklmnopqrstuvwxyzABCDEFGHIJKLMNOPQRSTUVWX
+";
+
+const WHOLE: &str = "load it = abcdefghijklmnopqrstuvwxyzABCDEFGHIJKLMNOPQRSTUVWX
+";
+
+const FIVE_AGAIN: &str = "front it 0 = 0 of 0
+front it 1 = a
+front it 8 = abcdefgh
+front it 50 = abcdefghijklmnopqrstuvwxyzABCDEFGHIJKLMNOPQRSTUVWX
+front it 51 = abcdefghijklmnopqrstuvwxyzABCDEFGHIJKLMNOPQRSTUVWX
+";
+
+/// How many loads had reached the store below after five fronts, the whole block, and five fronts again.
+fn count_loads(alloc: Global, tx: &mut Tx<Cached>, client: &mut Client) -> Result<[u64; 3], Fail>
+    requires { intact_in ⟦<Cached as Blocks>⟧.meanings ⟦<Cached as Blocks>⟧.holdings tx.old }
+    ensures { intact_in ⟦<Cached as Blocks>⟧.meanings ⟦<Cached as Blocks>⟧.holdings tx.new }
 {
-    give(alloc, store, &ID, &LETTERS)?;
-    let first = are_fronts(alloc, store, &ID, &LETTERS)?;
-    drop(store.load(alloc, &ID)?);
-    let loaded = are_fronts(alloc, store, &ID, &LETTERS)?;
-    give(alloc, store, &ID, &TURNED)?;
-    let changed = are_fronts(alloc, store, &ID, &TURNED)?;
-    Ok(first && loaded && changed && has_none(alloc, store, &ABSENT)?)
+    let fronts = loads_after(alloc, tx, client, FIVE)?;
+    let whole = loads_after(alloc, tx, client, WHOLE)?;
+    let again = loads_after(alloc, tx, client, FIVE_AGAIN)?;
+    play(alloc, tx, client, CHANGING)?;
+    Ok([fronts, whole, again])
 }
 
 #[test]
-fn tells_fronts_in_memory(rt: HostRuntime) -> Result<(), Fail> {
-    let mut store = MapStore::new(rt.alloc(), 50);
-    assert!(rt; follow_changes(rt.alloc(), &mut store)?);
-    Ok(())
-}
-
-/// Whether the fronts of a new block among changes are right, and that it has none once it was removed.
-fn follow_command<S: Blocks>(alloc: Global, tx: &mut Tx<S>) -> Result<bool, Fail>
-    requires { ⟦<Tx<S> as Blocks>⟧.meanings.intact tx.old }
-{
-    if tx.payload() != 50 {
-        return Err(Fail::from("another length"));
-    }
-    let id = tx.add(LETTERS.to_vec(alloc)?)?;
-    let new = are_fronts(alloc, tx, &id, &LETTERS)?;
-    if !tx.contains(&id) {
-        return Ok(false);
-    }
-    tx.remove(&id)?;
-    Ok(new && has_none(alloc, tx, &id)?)
-}
-
-#[test]
-fn tells_fronts_of_changes(rt: HostRuntime) -> Result<(), Fail> {
-    let mut tx = Tx::new(rt.alloc(), MapStore::new(rt.alloc(), 50), [0; 32]);
-    let right = follow_command(rt.alloc(), &mut tx);
-    drop(tx.into_store());
-    assert!(rt; right?);
+fn tells_fronts_through_a_cache_that_keeps_none(rt: HostRuntime) -> Result<(), Fail> {
+    let mut tx = Tx::new(rt.alloc(), empty(rt.alloc())?, SEED);
+    let seen = count_loads(rt.alloc(), &mut tx, &mut new_client());
+    drop(tx.into_store().into_store());
+    assert_eq!(rt; seen?, [5, 6, 6]);
     Ok(())
 }

@@ -1,4 +1,4 @@
-// The files and the record of client 7, byte by byte as the format has them.
+// Files of blocks that are sealed under one key, over a directory in memory.
 ghost use Rattle.std.specs.Prelude.{◌≡◌, ◌≤◌, [], length};
 ghost use Rattle.integrity_store.specs.sealed_store.Stores.{IsIntact, block_size_of, cipher_of};
 
@@ -11,39 +11,6 @@ use outside::{Change, FileName, Pending, Vault};
 use seal_api::Sealer;
 use std::alloc::Global;
 use std::test::Fail;
-
-/// What a record has before its blocks: its first bytes, what it belongs to, the client, no life.
-pub(crate) fn push_record_head(out: &mut Vec<u8>) -> Result<(), Fail> {
-    out.extend_from_slice(b"cryfs.localstate;1\0\0")?;
-    out.extend_from_slice(&[0x11; 80])?;
-    out.extend_from_slice(&[7, 0, 0, 0])?;
-    Ok(())
-}
-
-/// An id with its version, and whether its block lives.
-pub(crate) fn push_life(
-    out: &mut Vec<u8>,
-    id: &BlockId,
-    version: u64,
-    live: bool,
-) -> Result<(), Fail> {
-    out.extend_from_slice(&id.0)?;
-    out.extend_from_slice(&version.to_le_bytes())?;
-    out.push(if live { 1 } else { 0 })?;
-    Ok(())
-}
-
-/// What a block's file of client 7 holds: the format's number, its id, its client, its version and
-/// 50 bytes of payload.
-pub(crate) fn plain_of(id: &BlockId, version: u64, payload: u8) -> [u8; 80] {
-    let mut plain = [payload; 80];
-    plain[..30].fill(0);
-    plain[0] = 1;
-    plain[2..18].copy_from_slice(&id.0);
-    plain[18] = 7;
-    plain[22..30].copy_from_slice(&version.to_le_bytes());
-    plain
-}
 
 /// A store of blocks that are sealed over a directory.
 pub(crate) type Sealed = SealedStore<MemoryVault, Aes256Gcm>;
@@ -90,14 +57,14 @@ pub(crate) fn put_draft(
     Ok(())
 }
 
-/// Puts the file of a block, sealed under the key.
-pub(crate) fn put_file(
+/// The file that this plaintext is sealed to, without a store.
+pub(crate) fn file_of(
     alloc: Global,
-    below: &mut MemoryVault,
     id: &BlockId,
+    iv: &[u8; 16],
     plain: &[u8; 80],
-) -> Result<(), Fail> {
-    let file = sealed_file(alloc, id, plain)?;
-    below.put(alloc, &FileName::Block(*id), &file)?;
-    Ok(())
+) -> Result<Vec<u8>, Fail> {
+    let mut file = b"cryfs;block;0\0\x02\0".to_vec(alloc)?;
+    Aes256Gcm.seal_with(&[3; 32], iv, &id.0, plain, &mut file)?;
+    Ok(file)
 }

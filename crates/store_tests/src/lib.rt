@@ -5,25 +5,23 @@
 #[cfg(test)]
 mod block_caches;
 #[cfg(test)]
-mod cached_fronts;
+mod client_files;
+#[cfg(test)]
+mod client_steps;
 #[cfg(test)]
 mod counted;
 #[cfg(test)]
-mod fronts;
+mod counted_seals;
 #[cfg(test)]
-mod integrity_batches;
+mod fronts;
 #[cfg(test)]
 mod integrity_files;
 #[cfg(test)]
-mod integrity_fronts;
-#[cfg(test)]
-mod integrity_loads;
+mod integrity_stories;
 #[cfg(test)]
 mod map_stores;
 #[cfg(test)]
 mod redo_vaults;
-#[cfg(test)]
-mod seal_counts;
 #[cfg(test)]
 mod sealed_stores;
 #[cfg(test)]

@@ -1,0 +1,73 @@
+// A sealer that counts what it seals.
+ghost use Rattle.std.specs.Prelude.{◌≡◌};
+
+use aes_gcm::Aes256Gcm;
+use block_id::Memory;
+use seal_api::Sealer;
+use std::alloc::Global;
+use std::cell::Cell;
+
+#[derive(Drop)]
+pub(crate) struct CountedSeals<'a> {
+    pub(crate) seals: &'a Cell<u64>,
+}
+
+impl Sealer for CountedSeals<'_> {
+    ghost use Rattle.aes_gcm.specs.Gcm.{opened_of, sealed_of};
+    ghost use Rattle.aes_gcm.specs.Lengths.{length-opened_of, opened_of-agrees};
+    ghost use Rattle.aes_gcm.specs.Opening.{seals-sealed_of};
+
+    ghost iv_size = { λ _. 16 };
+
+    ghost opens = { λ _ key extra text. opened_of key extra text };
+
+    ghost sealed = { λ _ key iv extra plain. sealed_of key iv extra plain };
+
+    fn iv_len(&self) -> usize {
+        Aes256Gcm.iv_len()
+    }
+
+    fn seal_in_place(&self, key: &[u8; 32], iv: &[u8], extra: &[u8], text: &mut [u8]) {
+        self.seals.set(self.seals.get().saturating_add(1));
+        Aes256Gcm.seal_in_place(key, iv, extra, text);
+    }
+
+    fn seal_with(
+        &self,
+        key: &[u8; 32],
+        iv: &[u8],
+        extra: &[u8],
+        plain: &[u8],
+        out: &mut Vec<u8>,
+    ) -> Result<(), Memory> {
+        self.seals.set(self.seals.get().saturating_add(1));
+        Aes256Gcm.seal_with(key, iv, extra, plain, out)
+    }
+
+    fn unseal_with(
+        &self,
+        alloc: Global,
+        key: &[u8; 32],
+        extra: &[u8],
+        text: &[u8],
+    ) -> Result<Option<Vec<u8>>, Memory> {
+        Aes256Gcm.unseal_with(alloc, key, extra, text)
+    }
+
+    fn unseal_front(
+        &self,
+        alloc: Global,
+        key: &[u8; 32],
+        extra: &[u8],
+        text: &[u8],
+        most: usize,
+    ) -> Result<Option<Vec<u8>>, Memory> {
+        Aes256Gcm.unseal_front(alloc, key, extra, text, most)
+    }
+
+    ghost seals = { λ _ key iv extra plain len. seals-sealed_of key iv extra plain len };
+
+    ghost lengths = { λ _ key extra text plain opens. length-opened_of key extra text plain opens };
+
+    ghost agrees = { λ _ key extra other text plain again opens also. opened_of-agrees key extra other text plain again opens also };
+}
