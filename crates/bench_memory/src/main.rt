@@ -18,13 +18,16 @@ fn measure(rt: &HostRuntime, name: &str, first: u64, second: u64) -> io::Result<
 }
 
 fn usage(rt: &HostRuntime) -> io::Result<()> {
-    println!(rt; "usage: bench_memory (seal|seal-kept COUNT SIZE | trees BYTES STEPS)..")
+    println!(rt; "usage: bench_memory (seal|seal-kept BLOCKS BYTES | trees BYTES STEPS)..")
 }
 
 fn main(rt: HostRuntime) -> io::Result<()> {
     let mut words = env::args(&rt)?;
     words.next();
     let words: Vec<String> = words.collect(rt.alloc())?;
+    if words.is_empty() {
+        return usage(&rt);
+    }
     for words in words.chunks(3) {
         let [name, first, second] = words else {
             return usage(&rt);

@@ -25,7 +25,7 @@ struct Row<'a> {
     text: &'a str,
 }
 
-/// The parts of a row, which is of the form of those of `test_systems`.
+/// The parts of a row: its words, its input, behind `=` how it ends, and what it writes.
 fn parts(row: &str) -> Option<Row<'_>> {
     let (words, rest) = row.split_once('\n')?;
     let (input, end) = rest.split_once('=')?;
@@ -112,7 +112,7 @@ fn run_inputs(
     Ok(ended(rt.alloc(), inputs, lines.as_bytes(), &mut output, storage))
 }
 
-/// Whether a run ended and wrote as the row says: its text stands there whole, or the begin of it before `..`.
+/// Whether a run ended and wrote as the row says: its text stands there whole, or the beginning of it before `..`.
 fn is_as_said(ended: Status, written: &str, row: &Row<'_>) -> bool {
     let is_text = match row.text.strip_suffix("..\n") {
         Some(begin) => written.starts_with(begin),

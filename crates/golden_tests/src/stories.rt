@@ -12,13 +12,22 @@ pub struct Tale {
     pub noted: System,
 }
 
-/// Takes these steps, one after another.
-fn go_on(alloc: Global, tale: &mut Tale, steps: &str) -> Result<(), Fail> {
+/// One step: an order, or a run.
+fn take_step(alloc: Global, tale: &mut Tale, step: &str) -> Result<(), Fail> {
+    match step.strip_prefix('!') {
+        Some(order) => obey(alloc, tale, order.trim_end()),
+        None => play(alloc, &mut tale.system, step),
+    }
+}
+
+/// Takes these steps, one after another. One that isn't so is printed.
+fn go_on(rt: &HostRuntime, tale: &mut Tale, steps: &str) -> Result<(), Fail> {
     for step in steps.split("> ") {
-        match step.strip_prefix('!') {
-            Some(order) => obey(alloc, tale, order.trim_end())?,
-            None => play(alloc, &mut tale.system, step)?,
+        let found = take_step(rt.alloc(), tale, step);
+        if found.is_err() {
+            let _ = println!(rt; "> {step}");
         }
+        found?;
     }
     Ok(())
 }
@@ -30,7 +39,7 @@ fn told_or_named(rt: &HostRuntime, story: &str) -> Result<(), Fail> {
         system: nothing(rt.alloc()),
         noted: nothing(rt.alloc()),
     };
-    let found = go_on(rt.alloc(), &mut tale, steps);
+    let found = go_on(rt, &mut tale, steps);
     if found.is_err() {
         let _ = println!(rt; "at {title}");
     }

@@ -2,8 +2,9 @@
 use crate::counts::cost_so;
 use std::test::Fail;
 
-/// Seven entries of 68 bytes: 495 bytes of a directory, in 12 leaves. It is 24 files, and is read once. Where all but the first
-/// two read it again for the change they read 80, 61, 64, 64, 48 and 121; a write and a cut asked for the file's length then.
+/// Seven entries of 68 bytes: 495 bytes of a directory, in 12 leaves. The directory is 24 files, and is read once. Where the third
+/// to the eighth read it again for the change they read 80, 61, 64, 64, 48 and 121; a write and a cut asked for the file's
+/// length then.
 ///
 /// The last six give a row another name. One of the same length writes what lies between: with a removal and an insertion these
 /// read 126, 124 and 121 files, and wrote 13, 14 and 11; with a second look-up they read 61, 64 and 67. Else what follows is

@@ -24,12 +24,17 @@ fn is_answered(alloc: Global, site: &mut Site, nanos: u32, row: &str) -> Result<
     }
 }
 
-/// The rows are answered so, one after another, so many nanoseconds after their seconds. Each row begins with `> `.
-fn all_are_answered(alloc: Global, nanos: u32, rows: &str) -> Result<(), Fail> {
-    let mut site = empty_site(alloc)?;
+/// The rows are answered so, one after another, so many nanoseconds after their seconds. Each row begins with `> `. One that
+/// isn't answered so is printed.
+fn all_are_answered(rt: &HostRuntime, nanos: u32, rows: &str) -> Result<(), Fail> {
+    let mut site = empty_site(rt.alloc())?;
     for row in rows.split("> ") {
         if !row.is_empty() {
-            is_answered(alloc, &mut site, nanos, row)?;
+            let found = is_answered(rt.alloc(), &mut site, nanos, row);
+            if found.is_err() {
+                let _ = println!(rt; "at {row}");
+            }
+            found?;
         }
     }
     Ok(())
@@ -257,10 +262,10 @@ stat d 755 0 0 0 0.000000000 0.000000000 0.000000000
 
 #[test]
 fn the_worked_rows_are_answered(rt: HostRuntime) -> Result<(), Fail> {
-    all_are_answered(rt.alloc(), 5, MOVES)?;
-    all_are_answered(rt.alloc(), 0, FILES)?;
-    all_are_answered(rt.alloc(), 0, STAYS)?;
-    all_are_answered(rt.alloc(), 0, TOUCHES)
+    all_are_answered(&rt, 5, MOVES)?;
+    all_are_answered(&rt, 0, FILES)?;
+    all_are_answered(&rt, 0, STAYS)?;
+    all_are_answered(&rt, 0, TOUCHES)
 }
 
 #[test]

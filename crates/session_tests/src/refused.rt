@@ -5,9 +5,9 @@ use std::alloc::Global;
 use std::test::Fail;
 use test_systems::{Run, Status, System, ZEROS, mended, nothing, outcome, plain, script};
 
-/// How this run and a later one come out, in one of these ways. A way says how the run ends and what it writes, and after
-/// `| ` each text that a later run over an outside that works may write then. The first way is that of a run that is refused
-/// nothing.
+/// How this run and a later one come out, in one of these ways. A way begins with `# `. It says how the run ends and what it
+/// writes, and after `| ` each text that a later run over an outside that works may write then, `nothing` where it has no
+/// bytes. The first way is that of a run that is refused nothing.
 fn try_ways(
     alloc: Global,
     system: System,
@@ -108,7 +108,7 @@ fn create_wants_memory_only(rt: HostRuntime) -> Result<(), Fail> {
     try_ways(alloc, nothing(alloc), &case, CREATES, &later)
 }
 
-/// Closing wants memory before its first save, or after it.
+/// In the sixth way closing wants memory, before its first save or after it.
 const WRITES: &str = "\
 # done
 ok
