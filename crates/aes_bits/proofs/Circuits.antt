@@ -39,12 +39,12 @@ through_vectors c ws h = chosen_vectors (run vectors c.gates ws) c.outputs (run_
 
 -- ---- bit j of lane p of each wire
 
-wire_bit : (ws : List (List ℕ)) (a p j : ℕ) → p < 16 → lane_bit p j (get_or ws a vectors.none) ≡ get_or (map (lane_bit p j) ws) a 0
+wire_bit : (ws : List (List ℕ)) (a p j : ℕ) → p < 32 → lane_bit p j (get_or ws a vectors.none) ≡ get_or (map (lane_bit p j) ws) a 0
 wire_bit [] a p j lt = splat_bit 0 p j lt ∙ bit_at-zero j
 wire_bit (w ∷ ws) zero p j lt = refl
 wire_bit (w ∷ ws) (suc a) p j lt = wire_bit ws a p j lt
 
-made_bit : (g : Gate) (ws : List (List ℕ)) (p j : ℕ) → p < 16 → j < 8 → Each1 IsVector ws → lane_bit p j (made vectors g ws) ≡ made bits g (map (lane_bit p j) ws)
+made_bit : (g : Gate) (ws : List (List ℕ)) (p j : ℕ) → p < 32 → j < 8 → Each1 IsVector ws → lane_bit p j (made vectors g ws) ≡ made bits g (map (lane_bit p j) ws)
 made_bit (Sum a b) ws p j lt lj h =
     sum_bit _ _ p j (wire_vector ws a h) (wire_vector ws b h) lt ∙ (λ i. (wire_bit ws a p j lt i + wire_bit ws b p j lt i) % 2)
 made_bit (Product a b) ws p j lt lj h =
@@ -52,18 +52,18 @@ made_bit (Product a b) ws p j lt lj h =
 made_bit (Flip a) ws p j lt lj h =
     flip_bit _ p j (wire_vector ws a h) lt lj ∙ (λ i. (wire_bit ws a p j lt i + 1) % 2)
 
-run_bits : (gs : List Gate) (ws : List (List ℕ)) (p j : ℕ) → p < 16 → j < 8 → Each1 IsVector ws
+run_bits : (gs : List Gate) (ws : List (List ℕ)) (p j : ℕ) → p < 32 → j < 8 → Each1 IsVector ws
     → map (lane_bit p j) (run vectors gs ws) ≡ run bits gs (map (lane_bit p j) ws)
 run_bits [] ws p j lt lj h = refl
 run_bits (g ∷ gs) ws p j lt lj h =
     run_bits gs (ws ++ made vectors g ws ∷ []) p j lt lj (more_vectors g ws h)
     ∙ ap (run bits gs) (map-append (lane_bit p j) ws _ ∙ ap (λ b. map (lane_bit p j) ws ++ b ∷ []) (made_bit g ws p j lt lj h))
 
-chosen_bits : (ws : List (List ℕ)) (ks : List ℕ) (p j : ℕ) → p < 16 → map (lane_bit p j) (chosen vectors ws ks) ≡ chosen bits (map (lane_bit p j) ws) ks
+chosen_bits : (ws : List (List ℕ)) (ks : List ℕ) (p j : ℕ) → p < 32 → map (lane_bit p j) (chosen vectors ws ks) ≡ chosen bits (map (lane_bit p j) ws) ks
 chosen_bits ws [] p j lt = refl
 chosen_bits ws (k ∷ ks) p j lt = λ i. wire_bit ws k p j lt i ∷ chosen_bits ws ks p j lt i
 
-pub through_bits : (c : Circuit) (ws : List (List ℕ)) (p j : ℕ) → p < 16 → j < 8 → Each1 IsVector ws
+pub through_bits : (c : Circuit) (ws : List (List ℕ)) (p j : ℕ) → p < 32 → j < 8 → Each1 IsVector ws
     → map (lane_bit p j) (through vectors c ws) ≡ through bits c (map (lane_bit p j) ws)
 through_bits c ws p j lt lj h =
     chosen_bits (run vectors c.gates ws) c.outputs p j lt ∙ ap (λ bs. chosen bits bs c.outputs) (run_bits c.gates ws p j lt lj h)

@@ -1,5 +1,5 @@
 -- MixColumns on planes, block by block.
-use Rattle.std.proofs.Common.{◌≡◌, ℕ, ◌<◌, List, bit_xor, map, sym, ap, ◌∙◌, arith}
+use Rattle.std.proofs.Common.{◌≡◌, ℕ, ◌+◌, ◌*◌, ◌<◌, List, bit_xor, map, sym, ap, ◌∙◌, arith}
 use lib.Bits.{xor_assoc}
 use Rattle.aes_block.specs.Cipher.{mix_columns}
 use Rattle.aes_block.specs.Field.{times, xtime}
@@ -22,10 +22,10 @@ twice planes = through vectors doubling (first 8 planes)
 abbrev pub mixed_planes : List (List ℕ) → List (List ℕ)
 mixed_planes planes = sums (sums (twice (both planes)) (all_shuffled next_row planes)) (all_shuffled opposite_row (both planes))
 
-next_within : (p : ℕ) → p < 16 → next_row p < 16
+next_within : (p : ℕ) → p < 32 → next_row p < 32
 next_within p lt = omega arith
 
-opposite_within : (p : ℕ) → p < 16 → opposite_row p < 16
+opposite_within : (p : ℕ) → p < 32 → opposite_row p < 32
 opposite_within p lt = omega arith
 
 both_vectors : (planes : List (List ℕ)) → AreVectors planes → AreVectors (both planes)
@@ -45,12 +45,12 @@ pub mixed_vectors : (planes : List (List ℕ)) → AreVectors planes → AreVect
 mixed_vectors planes h =
     sum_vectors (sums (twice (both planes)) (all_shuffled next_row planes)) (all_shuffled opposite_row (both planes)) (first_sum_vectors planes h) (opposite_vectors planes h)
 
-both_bytes : (planes : List (List ℕ)) (p j : ℕ) → p < 16 → AreVectors planes → byte_of (both planes) p j ≡ bit_xor (byte_of planes p j) (byte_of planes (next_row p) j)
+both_bytes : (planes : List (List ℕ)) (p j : ℕ) → p < 32 → AreVectors planes → byte_of (both planes) p j ≡ bit_xor (byte_of planes p j) (byte_of planes (next_row p) j)
 both_bytes planes p j lp h =
     sum_bytes planes (all_shuffled next_row planes) p j lp h (shuffled_vectors next_row planes next_within h)
     ∙ ap (bit_xor (byte_of planes p j)) (shuffled_bytes next_row planes p j lp)
 
-mixed_bytes : (planes : List (List ℕ)) (p j : ℕ) → p < 16 → j < 8 → AreVectors planes
+mixed_bytes : (planes : List (List ℕ)) (p j : ℕ) → p < 32 → j < 8 → AreVectors planes
     → byte_of (mixed_planes planes) p j
     ≡ bit_xor (bit_xor (bit_xor (times 2 (byte_of planes p j)) (times 3 (byte_of planes (next_row p) j))) (byte_of planes (opposite_row p) j)) (byte_of planes (next_row (opposite_row p)) j)
 mixed_bytes planes p j lp lj h =
@@ -71,9 +71,15 @@ mixed_bytes planes p j lp lj h =
 
 pub mix_blocks : (planes : List (List ℕ)) → AreVectors planes → blocks_of (mixed_planes planes) ≡ map mix_columns (blocks_of planes)
 mix_blocks planes h = blocks_mapped mix_columns (mixed_planes planes) planes
-    (λ j lj. state_same _
-    (λ p. bit_xor (bit_xor (bit_xor (times 2 (byte_of planes p j)) (times 3 (byte_of planes (next_row p) j))) (byte_of planes (opposite_row p) j)) (byte_of planes (next_row (opposite_row p)) j))
-    (λ p lp. mixed_bytes planes p j lp lj h))
+    (λ a j la lj. state_same _
+    (λ p. bit_xor (bit_xor (bit_xor (times 2 (byte_of planes (16 * a + p) j)) (times 3 (byte_of planes (16 * a + next_row p) j))) (byte_of planes (16 * a + opposite_row p) j)) (byte_of planes (16 * a + next_row (opposite_row p)) j))
+    (λ p lp.
+    let q : ℕ = 16 * a + p in
+    let next : next_row q ≡ 16 * a + next_row p = omega arith in
+    let opposite : opposite_row q ≡ 16 * a + opposite_row p = omega arith in
+    let last : next_row (opposite_row q) ≡ 16 * a + next_row (opposite_row p) = omega arith in
+    mixed_bytes planes q j (omega arith) lj h
+    ∙ (λ i. bit_xor (bit_xor (bit_xor (times 2 (byte_of planes q j)) (times 3 (byte_of planes (next i) j))) (byte_of planes (opposite i) j)) (byte_of planes (last i) j))))
 
 -- from the parts of the code
 pub mix_joined : (planes next added doubled low opposite out : List (List ℕ)) → next ≡ all_shuffled next_row planes → added ≡ sums planes next → doubled ≡ twice added

@@ -60,7 +60,7 @@ plane_bytes vs on_bits f planes p j len same right =
     ∙ (λ i. slice_index (same i) k) ∙ sym (λ i. slice_index (on_bits (given i)) k))
     ∙ right b (of_bits-lt (bit_of planes p j) small)
 
-from_sums_bits : (y : List (List ℕ)) (p j : ℕ) → p < 16 → j < 8 → Each1 IsVector y
+from_sums_bits : (y : List (List ℕ)) (p j : ℕ) → p < 32 → j < 8 → Each1 IsVector y
     → map (lane_bit p j) (from_sums vectors y) ≡ from_sums bits (map (lane_bit p j) y)
 from_sums_bits y p j lp lj h =
     let bits_of : List (List ℕ) → List ℕ = map (lane_bit p j) in
@@ -86,7 +86,7 @@ pub s_box_vectors : (planes : List (List ℕ)) → AreVectors planes → Each1 I
 s_box_vectors planes h =
     from_sums_vectors (through vectors input_sums (first 8 planes)) (through_vectors input_sums (first 8 planes) (first_vectors planes h))
 
-pub s_box_bytes : (planes : List (List ℕ)) (p j : ℕ) → p < 16 → j < 8 → AreVectors planes
+pub s_box_bytes : (planes : List (List ℕ)) (p j : ℕ) → p < 32 → j < 8 → AreVectors planes
     → byte_of (s_box vectors (first 8 planes)) p j ≡ sub_byte (byte_of planes p j)
 s_box_bytes planes p j lp lj h =
     let x : List (List ℕ) = first 8 planes in
@@ -96,7 +96,7 @@ s_box_bytes planes p j lp lj h =
     ∙ ap (from_sums bits) (through_bits input_sums x p j lp lj hx))
     (λ b lt. eqb-true _ _ (all_below_at gates_are_right 256 b s_box_right lt))
 
-pub doubling_bytes : (planes : List (List ℕ)) (p j : ℕ) → p < 16 → j < 8 → AreVectors planes
+pub doubling_bytes : (planes : List (List ℕ)) (p j : ℕ) → p < 32 → j < 8 → AreVectors planes
     → byte_of (through vectors doubling (first 8 planes)) p j ≡ xtime (byte_of planes p j)
 doubling_bytes planes p j lp lj h =
     plane_bytes (through vectors doubling (first 8 planes)) (through bits doubling) xtime planes p j refl

@@ -23,25 +23,25 @@ filled b j small lj = elim (cases_lt b 1) [
 
 -- bit k of each lane, alone
 abbrev pub bit_lanes : List ℕ → ℕ → List ℕ
-bit_lanes v k = zip2 bit_and (zip2 shifted_down v (replicate 16 k)) (replicate 16 1)
+bit_lanes v k = zip2 bit_and (zip2 shifted_down v (replicate 32 k)) (replicate 32 1)
 
 abbrev pub spread_lanes : List ℕ → ℕ → List ℕ
-spread_lanes v k = zip2 negated (replicate 16 0) (bit_lanes v k)
+spread_lanes v k = zip2 negated (replicate 32 0) (bit_lanes v k)
 
 module _ (v : List ℕ) (k : ℕ) (hv : IsVector v) (hk : k < 8) where
   bits_vector : IsVector (bit_lanes v k)
-  bits_vector = zip_vector bit_and and_below (zip2 shifted_down v (replicate 16 k)) (replicate 16 1) (down_vector v k hv (omega arith)) (splat_vector 1 (omega arith))
+  bits_vector = zip_vector bit_and and_below (zip2 shifted_down v (replicate 32 k)) (replicate 32 1) (down_vector v k hv (omega arith)) (splat_vector 1 (omega arith))
 
   pub spread_vector : IsVector (spread_lanes v k)
-  spread_vector = zip_vector negated (λ a b ha hb. omega arith) (replicate 16 0) (bit_lanes v k) (splat_vector 0 (omega arith)) bits_vector
+  spread_vector = zip_vector negated (λ a b ha hb. omega arith) (replicate 32 0) (bit_lanes v k) (splat_vector 0 (omega arith)) bits_vector
 
-  bits_lane : (p : ℕ) → p < 16 → slice_index (bit_lanes v k) p ≡ bit_at (slice_index v p) k
+  bits_lane : (p : ℕ) → p < 32 → slice_index (bit_lanes v k) p ≡ bit_at (slice_index v p) k
   bits_lane p lt =
-      splat_lane bit_and (zip2 shifted_down v (replicate 16 k)) 1 p (down_vector v k hv (omega arith)) (omega arith) lt
+      splat_lane bit_and (zip2 shifted_down v (replicate 32 k)) 1 p (down_vector v k hv (omega arith)) (omega arith) lt
       ∙ ap (λ n. bit_and n 1) (splat_lane shifted_down v k p hv (omega arith) lt) ∙ shr_and_one (slice_index v p) k
 
-  pub spread_bits : (p j : ℕ) → p < 16 → j < 8 → bit_at (slice_index (spread_lanes v k) p) j ≡ bit_at (slice_index v p) k
+  pub spread_bits : (p j : ℕ) → p < 32 → j < 8 → bit_at (slice_index (spread_lanes v k) p) j ≡ bit_at (slice_index v p) k
   spread_bits p j lt lj =
-      ap (λ n. bit_at n j) (zip_lane negated (replicate 16 0) (bit_lanes v k) p (splat_vector 0 (omega arith)) bits_vector lt
-      ∙ (λ i. negated (get_or-replicate 16 p 0 0 lt i) (bits_lane p lt i)))
+      ap (λ n. bit_at n j) (zip_lane negated (replicate 32 0) (bit_lanes v k) p (splat_vector 0 (omega arith)) bits_vector lt
+      ∙ (λ i. negated (get_or-replicate 32 p 0 0 lt i) (bits_lane p lt i)))
       ∙ filled (bit_at (slice_index v p) k) j (bit_at-lt (slice_index v p) k) lj

@@ -84,49 +84,49 @@ lane_bits_at v p n below = elim (cases_lt n 8) [
 -- ---- vectors
 
 abbrev pub moved_lanes : List ℕ → List ℕ → ℕ → ℕ → List ℕ
-moved_lanes x y s m = zip2 bit_and (zip2 bit_xor (zip2 shifted_down x (replicate 16 s)) y) (replicate 16 m)
+moved_lanes x y s m = zip2 bit_and (zip2 bit_xor (zip2 shifted_down x (replicate 32 s)) y) (replicate 32 m)
 
 abbrev pub low_lanes : List ℕ → List ℕ → ℕ → ℕ → List ℕ
-low_lanes x y s m = zip2 bit_xor x (zip2 shifted_up (moved_lanes x y s m) (replicate 16 s))
+low_lanes x y s m = zip2 bit_xor x (zip2 shifted_up (moved_lanes x y s m) (replicate 32 s))
 
 abbrev pub high_lanes : List ℕ → List ℕ → ℕ → ℕ → List ℕ
 high_lanes x y s m = zip2 bit_xor y (moved_lanes x y s m)
 
 module _ (x y : List ℕ) (s m : ℕ) (hx : IsVector x) (hy : IsVector y) (hs : s < 256) (hm : m < 256) where
-  sum_vector : IsVector (zip2 bit_xor (zip2 shifted_down x (replicate 16 s)) y)
-  sum_vector = zip_vector bit_xor xor_below (zip2 shifted_down x (replicate 16 s)) y (down_vector x s hx hs) hy
+  sum_vector : IsVector (zip2 bit_xor (zip2 shifted_down x (replicate 32 s)) y)
+  sum_vector = zip_vector bit_xor xor_below (zip2 shifted_down x (replicate 32 s)) y (down_vector x s hx hs) hy
 
   moved_vector : IsVector (moved_lanes x y s m)
-  moved_vector = zip_vector bit_and and_below (zip2 bit_xor (zip2 shifted_down x (replicate 16 s)) y) (replicate 16 m) sum_vector (splat_vector m hm)
+  moved_vector = zip_vector bit_and and_below (zip2 bit_xor (zip2 shifted_down x (replicate 32 s)) y) (replicate 32 m) sum_vector (splat_vector m hm)
 
   pub low_vector : IsVector (low_lanes x y s m)
-  low_vector = zip_vector bit_xor xor_below x (zip2 shifted_up (moved_lanes x y s m) (replicate 16 s)) hx (up_vector (moved_lanes x y s m) s moved_vector hs)
+  low_vector = zip_vector bit_xor xor_below x (zip2 shifted_up (moved_lanes x y s m) (replicate 32 s)) hx (up_vector (moved_lanes x y s m) s moved_vector hs)
 
   pub high_vector : IsVector (high_lanes x y s m)
   high_vector = zip_vector bit_xor xor_below y (moved_lanes x y s m) hy moved_vector
 
-  moved_lane : (p : ℕ) → p < 16 → slice_index (moved_lanes x y s m) p ≡ moved (slice_index x p) (slice_index y p) s m
+  moved_lane : (p : ℕ) → p < 32 → slice_index (moved_lanes x y s m) p ≡ moved (slice_index x p) (slice_index y p) s m
   moved_lane p lt =
-      splat_lane bit_and (zip2 bit_xor (zip2 shifted_down x (replicate 16 s)) y) m p sum_vector hm lt
-      ∙ ap (λ n. bit_and n m) (zip_lane bit_xor (zip2 shifted_down x (replicate 16 s)) y p (down_vector x s hx hs) hy lt
+      splat_lane bit_and (zip2 bit_xor (zip2 shifted_down x (replicate 32 s)) y) m p sum_vector hm lt
+      ∙ ap (λ n. bit_and n m) (zip_lane bit_xor (zip2 shifted_down x (replicate 32 s)) y p (down_vector x s hx hs) hy lt
       ∙ ap (λ n. bit_xor n (slice_index y p)) (splat_lane shifted_down x s p hx hs lt))
 
-  low_lane : (p : ℕ) → p < 16 → slice_index (low_lanes x y s m) p ≡ bit_xor (slice_index x p) (moved (slice_index x p) (slice_index y p) s m * 2 ^ s % 2 ^ 8)
+  low_lane : (p : ℕ) → p < 32 → slice_index (low_lanes x y s m) p ≡ bit_xor (slice_index x p) (moved (slice_index x p) (slice_index y p) s m * 2 ^ s % 2 ^ 8)
   low_lane p lt =
-      zip_lane bit_xor x (zip2 shifted_up (moved_lanes x y s m) (replicate 16 s)) p hx (up_vector (moved_lanes x y s m) s moved_vector hs) lt
+      zip_lane bit_xor x (zip2 shifted_up (moved_lanes x y s m) (replicate 32 s)) p hx (up_vector (moved_lanes x y s m) s moved_vector hs) lt
       ∙ ap (bit_xor (slice_index x p)) (splat_lane shifted_up (moved_lanes x y s m) s p moved_vector hs lt ∙ ap (λ n. shifted_up n s) (moved_lane p lt))
 
-  high_lane : (p : ℕ) → p < 16 → slice_index (high_lanes x y s m) p ≡ bit_xor (slice_index y p) (moved (slice_index x p) (slice_index y p) s m)
+  high_lane : (p : ℕ) → p < 32 → slice_index (high_lanes x y s m) p ≡ bit_xor (slice_index y p) (moved (slice_index x p) (slice_index y p) s m)
   high_lane p lt = zip_lane bit_xor y (moved_lanes x y s m) p hy moved_vector lt ∙ ap (bit_xor (slice_index y p)) (moved_lane p lt)
 
-  pub low_row : mask_bits (m * 2 ^ s % 256) ≡ high_places s → (p : ℕ) → p < 16 → lane_bits (low_lanes x y s m) p ≡ low_swapped s (lane_bits x p) (lane_bits y p)
+  pub low_row : mask_bits (m * 2 ^ s % 256) ≡ high_places s → (p : ℕ) → p < 32 → lane_bits (low_lanes x y s m) p ≡ low_swapped s (lane_bits x p) (lane_bits y p)
   low_row mask p lt =
       ap (λ n. map (bit_at n) (range_with_len 0 8)) (low_lane p lt)
       ∙ row_same _ _ (λ i li.
       low_bit (slice_index x p) (slice_index y p) s m i li (row_at (bit_at (m * 2 ^ s % 256)) (λ i. cond (is_low s i) 0 1) mask i li)
       ∙ sym (λ k. cond (is_low s i) (lane_bits_at x p i (hx.1 p lt) k) (lane_bits_at y p (i - s) (hy.1 p lt) k)))
 
-  pub high_row : mask_bits m ≡ low_places s → (p : ℕ) → p < 16 → lane_bits (high_lanes x y s m) p ≡ high_swapped s (lane_bits x p) (lane_bits y p)
+  pub high_row : mask_bits m ≡ low_places s → (p : ℕ) → p < 32 → lane_bits (high_lanes x y s m) p ≡ high_swapped s (lane_bits x p) (lane_bits y p)
   high_row mask p lt =
       ap (λ n. map (bit_at n) (range_with_len 0 8)) (high_lane p lt)
       ∙ row_same _ _ (λ i li.

@@ -27,8 +27,8 @@ abbrev pub vectors : Wires (List ℕ)
 vectors = record {
   sum = zip2 bit_xor;
   product = zip2 bit_and;
-  flip = λ a. zip2 bit_xor a (replicate 16 255);
-  none = replicate 16 0;
+  flip = λ a. zip2 bit_xor a (replicate 32 255);
+  none = replicate 32 0;
 }
 
 -- the wire that a gate makes

@@ -1,4 +1,4 @@
-// A key, ready to encrypt eight blocks at a time (FIPS 197, 5.1).
+// A key, ready to encrypt sixteen blocks at a time (FIPS 197, 5.1).
 ghost use Rattle.std.specs.Prelude.{◌≡◌, ◌<◌, map, replicate};
 ghost use Rattle.aes_block.specs.Cipher.{round_key};
 ghost use Rattle.aes_block.specs.KeyExpansion.{aes256, key_expansion};
@@ -9,11 +9,11 @@ use crate::sub_word::ByCircuit;
 use aes_block::KeySchedule;
 use std::marker::Model;
 
-/// AES-256 under one key, eight blocks at a time; no look-up depends on the key or the blocks.
+/// AES-256 under one key, sixteen blocks at a time; no look-up depends on the key or the blocks.
 #[derive(Drop)]
 pub struct KeyPlanes {
     key: [u8; 32],
-    // Each round key, eight times.
+    // Each round key, sixteen times.
     round_keys: [Planes; 15],
 }
 
@@ -63,7 +63,7 @@ impl KeyPlanes {
         KeyPlanes::new(&KeySchedule::expanded_by(key, &ByCircuit))
     }
 
-    /// A block, encrypted under the key, in the time of eight.
+    /// A block, encrypted under the key, in the time of sixteen.
     pub fn encrypt_block(&self, block: [u8; 16]) -> [u8; 16]
         ensures { result ≡ aes256 self.now block }
     {
@@ -71,18 +71,31 @@ impl KeyPlanes {
         blocks[0]
     }
 
-    /// Eight blocks, each encrypted by itself under the key.
+    /// Eight blocks, each encrypted by itself under the key, in the time of sixteen.
     pub fn encrypt_blocks(&self, blocks: &[[u8; 16]; 8]) -> [[u8; 16]; 8]
+        ensures { result ≡ map (aes256 self.now) blocks.now }
+    {
+        let [b0, b1, b2, b3, b4, b5, b6, b7] = *blocks;
+        let all = self.encrypt_sixteen(&[
+            b0, b1, b2, b3, b4, b5, b6, b7, b0, b1, b2, b3, b4, b5, b6, b7,
+        ]);
+        [
+            all[0], all[1], all[2], all[3], all[4], all[5], all[6], all[7],
+        ]
+    }
+
+    /// Sixteen blocks, each encrypted by itself under the key.
+    pub fn encrypt_sixteen(&self, blocks: &[[u8; 16]; 16]) -> [[u8; 16]; 16]
         ensures { result ≡ map (aes256 self.now) blocks.now }
     {
         encrypt(&self.round_keys, &Planes::new(blocks)).blocks()
     }
 }
 
-/// The key of round r, eight times.
+/// The key of round r, sixteen times.
 fn repeated_key(keys: &KeySchedule, r: usize) -> Planes
     requires { r < 15 }
-    ensures { result ≡ replicate 8 (round_key (key_expansion keys.now) r) }
+    ensures { result ≡ replicate 16 (round_key (key_expansion keys.now) r) }
 {
     Planes::repeated(keys.round_key(r))
 }

@@ -1,4 +1,4 @@
-//! AES-256 (FIPS 197) on eight blocks at a time, with no look-up that depends on the key or the blocks.
+//! AES-256 (FIPS 197) on sixteen blocks at a time, with no look-up that depends on the key or the blocks.
 #![tactic(auto)]
 
 mod key_planes;

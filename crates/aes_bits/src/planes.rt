@@ -1,24 +1,24 @@
-// Eight blocks as eight planes, and back.
+// Sixteen blocks as eight planes, and back.
 ghost use Rattle.std.specs.Prelude.{◌≡◌, ◌<◌, ℕ, replicate, slice_index};
 ghost use Rattle.std.specs.Int.{bit_at};
-ghost use Rattle.aes_bits.specs.Planes.{AreVectors, IsVector, blocks_of};
+ghost use Rattle.aes_bits.specs.Planes.{AreVectors, IsVector, blocks_of, half};
 
 use crate::transposition::transpose;
 use std::marker::Model;
-use std::simd::u8x16;
+use std::simd::{u8x16, u8x32};
 
-/// Eight blocks side by side: plane k has bit k of each byte. Lane p of a plane has that bit of byte p
-/// of each block, and bit j of a lane is block j's.
+/// Sixteen blocks side by side: plane k has bit k of each byte. Lane p of a plane has that bit of byte p
+/// of each even block, and lane 16 + p of each odd one. Bit j of a lane is that of block 2j or 2j + 1.
 #[derive(Drop)]
 pub(crate) struct Planes {
-    bit0: u8x16,
-    bit1: u8x16,
-    bit2: u8x16,
-    bit3: u8x16,
-    bit4: u8x16,
-    bit5: u8x16,
-    bit6: u8x16,
-    bit7: u8x16,
+    bit0: u8x32,
+    bit1: u8x32,
+    bit2: u8x32,
+    bit3: u8x32,
+    bit4: u8x32,
+    bit5: u8x32,
+    bit6: u8x32,
+    bit7: u8x32,
 }
 
 impl Model for Planes {
@@ -33,29 +33,29 @@ impl Model for Planes {
 }
 
 impl Planes {
-    /// The planes of eight blocks.
+    /// The planes of sixteen blocks.
     #[inline(always)]
-    pub(crate) fn new(blocks: &[[u8; 16]; 8]) -> Planes
+    pub(crate) fn new(blocks: &[[u8; 16]; 16]) -> Planes
         ensures { result ≡ blocks.now }
     {
         Planes::from_planes(transpose([
-            load(blocks[0]),
-            load(blocks[1]),
-            load(blocks[2]),
-            load(blocks[3]),
-            load(blocks[4]),
-            load(blocks[5]),
-            load(blocks[6]),
-            load(blocks[7]),
+            load(blocks[0], blocks[1]),
+            load(blocks[2], blocks[3]),
+            load(blocks[4], blocks[5]),
+            load(blocks[6], blocks[7]),
+            load(blocks[8], blocks[9]),
+            load(blocks[10], blocks[11]),
+            load(blocks[12], blocks[13]),
+            load(blocks[14], blocks[15]),
         ]))
     }
 
-    /// The planes of eight times the same block.
+    /// The planes of sixteen times the same block.
     #[inline(always)]
     pub(crate) fn repeated(block: [u8; 16]) -> Planes
-        ensures { result ≡ replicate 8 block }
+        ensures { result ≡ replicate 16 block }
     {
-        let bytes = load(block);
+        let bytes = load(block, block);
         Planes::from_planes([
             spread(bytes, 0),
             spread(bytes, 1),
@@ -70,7 +70,7 @@ impl Planes {
 
     /// From planes 0 to 7.
     #[inline(always)]
-    pub(crate) fn from_planes(planes: [u8x16; 8]) -> Planes
+    pub(crate) fn from_planes(planes: [u8x32; 8]) -> Planes
         requires { AreVectors planes }
         ensures { result ≡ blocks_of planes }
     {
@@ -89,7 +89,7 @@ impl Planes {
 
     /// Planes 0 to 7.
     #[inline(always)]
-    pub(crate) fn planes(&self) -> [u8x16; 8]
+    pub(crate) fn planes(&self) -> [u8x32; 8]
         ensures vectors { AreVectors result }
         ensures value { self.now ≡ blocks_of result }
     {
@@ -100,37 +100,79 @@ impl Planes {
 
     /// The blocks.
     #[inline(always)]
-    pub(crate) fn blocks(&self) -> [[u8; 16]; 8]
+    pub(crate) fn blocks(&self) -> [[u8; 16]; 16]
         ensures { result ≡ self.now }
     {
-        let [b0, b1, b2, b3, b4, b5, b6, b7] = transpose(self.planes());
+        let [v0, v1, v2, v3, v4, v5, v6, v7] = transpose(self.planes());
         [
-            b0.to_array(),
-            b1.to_array(),
-            b2.to_array(),
-            b3.to_array(),
-            b4.to_array(),
-            b5.to_array(),
-            b6.to_array(),
-            b7.to_array(),
+            low(v0),
+            high(v0),
+            low(v1),
+            high(v1),
+            low(v2),
+            high(v2),
+            low(v3),
+            high(v3),
+            low(v4),
+            high(v4),
+            low(v5),
+            high(v5),
+            low(v6),
+            high(v6),
+            low(v7),
+            high(v7),
         ]
     }
 }
 
+/// Two blocks, one behind the other.
 #[inline(always)]
-fn load(block: [u8; 16]) -> u8x16
+fn load(low: [u8; 16], high: [u8; 16]) -> u8x32
     ensures vector { IsVector result }
-    ensures lanes { result ≡ block }
+    ensures low { half 0 result ≡ low }
+    ensures high { half 1 result ≡ high }
 {
-    u8x16::from_array(block)
+    join(u8x16::from_array(low), u8x16::from_array(high))
+}
+
+/// Two vectors as the halves of one.
+#[inline(always)]
+fn join(low: u8x16, high: u8x16) -> u8x32
+    ensures vector { IsVector result }
+    ensures low { half 0 result ≡ low }
+    ensures high { half 1 result ≡ high }
+{
+    low.shuffle(
+        high,
+        [
+            0, 1, 2, 3, 4, 5, 6, 7, 8, 9, 10, 11, 12, 13, 14, 15, 16, 17, 18, 19, 20, 21, 22, 23,
+            24, 25, 26, 27, 28, 29, 30, 31,
+        ],
+    )
+}
+
+/// The first of two blocks.
+#[inline(always)]
+fn low(v: u8x32) -> [u8; 16]
+    ensures { result ≡ half 0 v }
+{
+    v.extract::<0, 16>().to_array()
+}
+
+/// The second of two blocks.
+#[inline(always)]
+fn high(v: u8x32) -> [u8; 16]
+    ensures { result ≡ half 1 v }
+{
+    v.extract::<16, 16>().to_array()
 }
 
 /// In each lane, bit k of that lane at all places.
 #[inline(always)]
-fn spread(bytes: u8x16, k: u8) -> u8x16
+fn spread(bytes: u8x32, k: u8) -> u8x32
     requires { k < 8 }
     ensures vector { IsVector result }
-    ensures bits { (p j : ℕ) → p < 16 → j < 8 → bit_at (slice_index result p) j ≡ bit_at (slice_index bytes p) k }
+    ensures bits { (p j : ℕ) → p < 32 → j < 8 → bit_at (slice_index result p) j ≡ bit_at (slice_index bytes p) k }
 {
-    u8x16::splat(0) - ((bytes >> u8x16::splat(k)) & u8x16::splat(1))
+    u8x32::splat(0) - ((bytes >> u8x32::splat(k)) & u8x32::splat(1))
 }

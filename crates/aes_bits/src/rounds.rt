@@ -28,10 +28,10 @@ fn mix_columns(blocks: &Planes) -> Planes
     Planes::from_planes(planes)
 }
 
-/// AddRoundKey (5.1.4), of a key that stands there eight times.
+/// AddRoundKey (5.1.4), of a key that stands there sixteen times.
 #[inline(always)]
 fn add_round_key(blocks: &Planes, key: &Planes) -> Planes
-    ensures { (w : List ℕ) → (r : ℕ) → key.now ≡ replicate 8 (round_key w r) → result ≡ map (add_round_key w r) blocks.now }
+    ensures { (w : List ℕ) → (r : ℕ) → key.now ≡ replicate 16 (round_key w r) → result ≡ map (add_round_key w r) blocks.now }
 {
     let planes = add(blocks.planes(), key.planes());
     Planes::from_planes(planes)
@@ -40,12 +40,12 @@ fn add_round_key(blocks: &Planes, key: &Planes) -> Planes
 /// One of the rounds 1 to 13.
 #[inline(always)]
 fn round(blocks: &Planes, key: &Planes) -> Planes
-    ensures { (w : List ℕ) → (r : ℕ) → key.now ≡ replicate 8 (round_key w r) → result ≡ map (λ s. add_round_key w r (mix_columns (shift_rows (sub_bytes s)))) blocks.now }
+    ensures { (w : List ℕ) → (r : ℕ) → key.now ≡ replicate 16 (round_key w r) → result ≡ map (λ s. add_round_key w r (mix_columns (shift_rows (sub_bytes s)))) blocks.now }
 {
     add_round_key(&mix_columns(&shift_rows(&sub_bytes(blocks))), key)
 }
 
-/// Encrypts eight blocks under the keys of the rounds.
+/// Encrypts sixteen blocks under the keys of the rounds.
 pub(crate) fn encrypt(keys: &[Planes; 15], blocks: &Planes) -> Planes
     ensures { (w : List ℕ) → keys.now ≡ repeated_keys w → result ≡ map (cipher w) blocks.now }
 {

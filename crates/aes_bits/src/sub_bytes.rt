@@ -8,11 +8,11 @@ ghost use Rattle.aes_bits.specs.Planes.{first};
 ghost use Rattle.aes_bits.specs.SBox.{input_sums, norm, norm_inverse, output_sums, products};
 
 use crate::planes::Planes;
-use std::simd::u8x16;
+use std::simd::u8x32;
 
 /// Sums of the bits of a byte.
 #[inline(always)]
-fn input_sums(x: [u8x16; 8]) -> [u8x16; 22]
+fn input_sums(x: [u8x32; 8]) -> [u8x32; 22]
     ensures { result ≡ through vectors input_sums (first 8 x) }
 {
     let [x7, x6, x5, x4, x3, x2, x1, x0] = x;
@@ -47,7 +47,7 @@ fn input_sums(x: [u8x16; 8]) -> [u8x16; 22]
 
 /// The norm of the byte over the field of 16 elements.
 #[inline(always)]
-fn norm(y: [u8x16; 22]) -> [u8x16; 4]
+fn norm(y: [u8x32; 22]) -> [u8x32; 4]
     ensures { result ≡ through vectors norm (first 22 y) }
 {
     let t2 = y[12] & y[15];
@@ -78,7 +78,7 @@ fn norm(y: [u8x16; 22]) -> [u8x16; 4]
 
 /// The inverse of the norm, and sums of its bits.
 #[inline(always)]
-fn norm_inverse(t: [u8x16; 4]) -> [u8x16; 9]
+fn norm_inverse(t: [u8x32; 4]) -> [u8x32; 9]
     ensures { result ≡ through vectors norm_inverse (first 4 t) }
 {
     let [t21, t22, t23, t24] = t;
@@ -108,7 +108,7 @@ fn norm_inverse(t: [u8x16; 4]) -> [u8x16; 9]
 
 /// Products that add up to the inverse of the byte.
 #[inline(always)]
-fn products(y: [u8x16; 22], t: [u8x16; 9]) -> [u8x16; 18]
+fn products(y: [u8x32; 22], t: [u8x32; 9]) -> [u8x32; 18]
     ensures { result ≡ through vectors products (first 22 y ++ first 9 t) }
 {
     let [t29, t33, t37, t40, t41, t42, t43, t44, t45] = t;
@@ -136,10 +136,10 @@ fn products(y: [u8x16; 22], t: [u8x16; 9]) -> [u8x16; 18]
 
 /// Their sums, and the affine transformation.
 #[inline(always)]
-fn output_sums(z: [u8x16; 18]) -> [u8x16; 8]
+fn output_sums(z: [u8x32; 18]) -> [u8x32; 8]
     ensures { result ≡ through vectors output_sums (first 18 z) }
 {
-    let ones = u8x16::splat(255);
+    let ones = u8x32::splat(255);
     let t46 = z[15] ^ z[16];
     let t47 = z[10] ^ z[11];
     let t48 = z[5] ^ z[13];

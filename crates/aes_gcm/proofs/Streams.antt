@@ -29,7 +29,7 @@ added_more old text new mask part low n w long same done rest inside before k fr
       subst P place added ∙ ap (λ (t : ℕ). bit_xor t (mask k)) (rest k above)
 ]
 
--- a byte of the key stream, from its place in eight blocks
+-- a byte of the key stream, from its place in some blocks
 pub stream_byte : (cipher : List ℕ → List ℕ) (initial first : List ℕ) (blocks : List (List ℕ)) (m n j : ℕ)
     → HasStream cipher first blocks → first ≡ counter_block initial m → n ≡ 16 * m → j < 16 * length blocks
     → slice_index (slice_index_or blocks (j / 16) []) (j % 16) ≡ key_byte cipher initial (n + j)
@@ -43,13 +43,13 @@ stream_byte cipher initial first blocks m n j stream is_first is_n lt =
     ∙ (λ i. slice_index (cipher (counted i)) (remainder i))
 
 -- the key stream without its first block
-pub later_stream : (cipher : List ℕ → List ℕ) (first : List ℕ) (blocks : List (List ℕ)) → length blocks ≡ 8 → HasStream cipher first blocks
-    → HasStream cipher (inc32 first) (take 7 (drop 1 blocks))
+pub later_stream : (cipher : List ℕ → List ℕ) (first : List ℕ) (blocks : List (List ℕ)) → length blocks ≡ 16 → HasStream cipher first blocks
+    → HasStream cipher (inc32 first) (take 15 (drop 1 blocks))
 unfolding HasStream counter_block
-later_stream cipher first blocks eight stream = λ j lt.
-    let small : j < 7 = omega (arith, lt, length-take 7 (drop 1 blocks)) in
+later_stream cipher first blocks sixteen stream = λ j lt.
+    let small : j < 15 = omega (arith, lt, length-take 15 (drop 1 blocks)) in
     let next : 1 + j ≡ j + 1 = omega arith in
-    get_or-take 7 (drop 1 blocks) j [] small ∙ get_or_after_one blocks j []
+    get_or-take 15 (drop 1 blocks) j [] small ∙ get_or_after_one blocks j []
     ∙ stream (1 + j) (omega arith) ∙ ap cipher (sym (counter_block_from first 1 j))
 
 -- a text of one block
@@ -69,9 +69,9 @@ gctr_block cipher initial block old new is_block len same added =
 
 -- the first bytes were added, and those from f on go on with a later counter block
 pub gctr_joined : (cipher : List ℕ → List ℕ) (first counter old text new : List ℕ) (f : ℕ) → length text ≡ length old
-    → f ≡ min (length text) 112 → counter ≡ counter_block first 8
-    → ((k : ℕ) → k < 112 → k < length old → slice_index text k ≡ bit_xor (slice_index old k) (key_byte cipher (inc32 first) k))
-    → ((k : ℕ) → 112 ≤ k → slice_index text k ≡ slice_index old k)
+    → f ≡ min (length text) 240 → counter ≡ counter_block first 16
+    → ((k : ℕ) → k < 240 → k < length old → slice_index text k ≡ bit_xor (slice_index old k) (key_byte cipher (inc32 first) k))
+    → ((k : ℕ) → 240 ≤ k → slice_index text k ≡ slice_index old k)
     → new ≡ gctr cipher counter (take (length text - f) (drop f text))
     → put_mid f (length text - f) text new ≡ gctr cipher (inc32 first) old
 unfolding gctr counter_block
@@ -88,13 +88,13 @@ gctr_joined cipher first counter old text new f same is_f is_counter begun rest 
       | inl below ↦
           get_or_append_left (take f text) new 0 k (omega (arith, front)) ∙ get_or-take f text k 0 below ∙ begun k (omega arith) lt
       | inr above ↦
-          let full : f ≡ 112 = omega arith in
+          let full : f ≡ 240 = omega arith in
           let j : ℕ = k - f in
           let place : f + j ≡ k = omega arith in
-          let quotient : 8 + j / 16 ≡ 1 + k / 16 = omega arith in
+          let quotient : 16 + j / 16 ≡ 1 + k / 16 = omega arith in
           let remainder : j % 16 ≡ k % 16 = omega arith in
           let counted : counter_block counter (j / 16) ≡ counter_block (inc32 first) (k / 16) =
-          ap (λ (b : List ℕ). counter_block b (j / 16)) is_counter ∙ counter_block_from first 8 (j / 16)
+          ap (λ (b : List ℕ). counter_block b (j / 16)) is_counter ∙ counter_block_from first 16 (j / 16)
           ∙ ap (counter_block first) quotient ∙ sym (counter_block_from first 1 (k / 16)) in
           get_or-append_right (take f text) new f k 0 front above
           ∙ ap (λ (l : List ℕ). slice_index l j) done

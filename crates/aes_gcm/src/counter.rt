@@ -13,10 +13,10 @@ fn inc32(block: [u8; 16]) -> [u8; 16]
     next
 }
 
-/// Eight counter blocks in a row, from this one on.
+/// Sixteen counter blocks in a row, from this one on.
 #[inline(always)]
-pub(crate) fn eight_counters(first: [u8; 16]) -> [[u8; 16]; 8]
-    ensures { (j : ℕ) → j < 8 → slice_index_or result j [] ≡ counter_block first j }
+pub(crate) fn sixteen_counters(first: [u8; 16]) -> [[u8; 16]; 16]
+    ensures { (j : ℕ) → j < 16 → slice_index_or result j [] ≡ counter_block first j }
 {
     let second = inc32(first);
     let third = inc32(second);
@@ -25,14 +25,25 @@ pub(crate) fn eight_counters(first: [u8; 16]) -> [[u8; 16]; 8]
     let sixth = inc32(fifth);
     let seventh = inc32(sixth);
     let eighth = inc32(seventh);
-    [first, second, third, fourth, fifth, sixth, seventh, eighth]
+    let ninth = inc32(eighth);
+    let tenth = inc32(ninth);
+    let eleventh = inc32(tenth);
+    let twelfth = inc32(eleventh);
+    let thirteenth = inc32(twelfth);
+    let fourteenth = inc32(thirteenth);
+    let fifteenth = inc32(fourteenth);
+    let sixteenth = inc32(fifteenth);
+    [
+        first, second, third, fourth, fifth, sixth, seventh, eighth, ninth, tenth, eleventh,
+        twelfth, thirteenth, fourteenth, fifteenth, sixteenth,
+    ]
 }
 
-/// The counter block eight after this one.
+/// The counter block sixteen after this one.
 #[inline(always)]
-pub(crate) fn eight_after(first: [u8; 16]) -> [u8; 16]
-    ensures { result ≡ counter_block first 8 }
+pub(crate) fn sixteen_after(first: [u8; 16]) -> [u8; 16]
+    ensures { result ≡ counter_block first 16 }
 {
-    let [_, _, _, _, _, _, _, eighth] = eight_counters(first);
-    inc32(eighth)
+    let counters = sixteen_counters(first);
+    inc32(counters[15])
 }

@@ -158,7 +158,7 @@ fn subkey_of(planes: &KeyPlanes) -> u128
 fn append_crypted(
     planes: &KeyPlanes,
     first: [u8; 16],
-    turn: &[[u8; 16]; 8],
+    turn: &[[u8; 16]; 16],
     text: &[u8],
     out: &mut Vec<u8>,
 ) -> Result<(), AllocError>

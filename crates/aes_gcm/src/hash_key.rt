@@ -1,11 +1,12 @@
 // GHASH (SP 800-38D, 6.3 and 6.4), by tables of the multiples of the hash subkey.
-ghost use Rattle.std.specs.Prelude.{◌≡◌, ℕ, ◌+◌, ◌*◌, ◌/◌, ◌<◌, length, map, slice_index};
+ghost use Rattle.std.specs.Prelude.{◌≡◌, ◌≤◌, ℕ, ◌+◌, ◌*◌, ◌/◌, ◌<◌, length, map, slice_index};
 ghost use Rattle.std.specs.List.{range_with_len};
 ghost use Rattle.aes_gcm.specs.Gcm.{padded};
 ghost use Rattle.aes_gcm.specs.Ghash.{block_at, hashed, next_v, times};
 ghost use Rattle.aes_gcm.specs.Tables.{AreTables, entry};
 
 use std::marker::Model;
+use std::simd::u8x16;
 
 /// Row p has the multiples of a subkey by the sixteen nibbles at place p of a block, from the left.
 type Tables = [[u128; 16]; 32];
@@ -74,6 +75,27 @@ impl HashKey {
 /// Block i of some bytes, with zeros past their end.
 #[inline(always)]
 fn load(bytes: &[u8], i: usize) -> u128
+    requires { 16 * i < length bytes.now }
+    ensures { result ≡ block_at (padded bytes.now) i }
+{
+    if 16 <= bytes.len() - 16 * i {
+        load_whole(bytes, i)
+    } else {
+        load_part(bytes, i)
+    }
+}
+
+/// Block i of some bytes.
+#[inline(always)]
+fn load_whole(bytes: &[u8], i: usize) -> u128
+    requires { 16 * i + 16 ≤ length bytes.now }
+    ensures { result ≡ block_at (padded bytes.now) i }
+{
+    u128::from_be_bytes(u8x16::from_slice(&bytes[16 * i..]).to_array())
+}
+
+/// The last block of some bytes, with zeros past their end.
+fn load_part(bytes: &[u8], i: usize) -> u128
     requires { 16 * i < length bytes.now }
     ensures { result ≡ block_at (padded bytes.now) i }
 {

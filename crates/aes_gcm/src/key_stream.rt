@@ -1,9 +1,9 @@
-// The key stream of counter mode, made eight blocks a turn, and its sum with a text (SP 800-38D, 6.5).
+// The key stream of counter mode, made sixteen blocks a turn, and its sum with a text (SP 800-38D, 6.5).
 ghost use Rattle.std.specs.Prelude.{◌≡◌, ◌≤◌, ◌+◌, ◌-◌, ◌*◌, ◌/◌, ◌%◌, ◌<◌, ℕ, [], length, slice_index, slice_index_or, bit_xor};
 ghost use Rattle.aes_block.specs.KeyExpansion.{aes256};
 ghost use Rattle.aes_gcm.specs.Gctr.{HasStream, gctr, inc32};
 
-use crate::counter::{eight_after, eight_counters};
+use crate::counter::{sixteen_after, sixteen_counters};
 use aes_bits::KeyPlanes;
 use std::simd::u8x16;
 
@@ -11,23 +11,23 @@ use std::simd::u8x16;
 const BLOCK_LEN: usize = 16;
 
 /// The bytes of a turn.
-const TURN_LEN: usize = 8 * BLOCK_LEN;
+const TURN_LEN: usize = 16 * BLOCK_LEN;
 
-/// The first eight blocks of the key stream from a counter block on.
-pub(crate) fn first_turn(keys: &KeyPlanes, first: [u8; 16]) -> [[u8; 16]; 8]
+/// The first sixteen blocks of the key stream from a counter block on.
+pub(crate) fn first_turn(keys: &KeyPlanes, first: [u8; 16]) -> [[u8; 16]; 16]
     ensures { HasStream (aes256 keys.now) first result }
 {
-    keys.encrypt_blocks(&eight_counters(first))
+    keys.encrypt_sixteen(&sixteen_counters(first))
 }
 
-/// Adds the key stream without its first block to a text, given its first eight blocks.
-pub(crate) fn crypt(keys: &KeyPlanes, first: [u8; 16], turn: &[[u8; 16]; 8], text: &mut [u8])
+/// Adds the key stream without its first block to a text, given its first sixteen blocks.
+pub(crate) fn crypt(keys: &KeyPlanes, first: [u8; 16], turn: &[[u8; 16]; 16], text: &mut [u8])
     requires { HasStream (aes256 keys.now) first turn.now }
     ensures { text.new ≡ gctr (aes256 keys.now) (inc32 first) text.old }
 {
     add_blocks(text, 0, &turn[1..]);
     let front = text.len().min(TURN_LEN - BLOCK_LEN);
-    gctr(keys, eight_after(first), &mut text[front..]);
+    gctr(keys, sixteen_after(first), &mut text[front..]);
 }
 
 /// Adds the key stream from a counter block on to a text.
@@ -39,7 +39,7 @@ fn gctr(keys: &KeyPlanes, initial: [u8; 16], text: &mut [u8])
     'turns: for i in 0..count {
         let turn = first_turn(keys, counter);
         add_blocks(text, TURN_LEN * i, &turn);
-        let next = eight_after(counter);
+        let next = sixteen_after(counter);
         counter = next;
     }
 }

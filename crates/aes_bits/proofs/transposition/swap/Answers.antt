@@ -11,10 +11,10 @@ each P holds [] = tt
 each P holds (x ∷ xs) = (holds x, each P holds xs)
 
 pub overflow_shr-moved : goal.overflow_shr-moved
-overflow_shr-moved c = Each2-splat _ c.args.x 16 c.args.places (each _ (λ x. search rules) c.args.x)
+overflow_shr-moved c = Each2-splat _ c.args.x 32 c.args.places (each _ (λ x. search rules) c.args.x)
 
 pub overflow_shl-result : goal.overflow_shl-result
-overflow_shl-result c = Each2-splat _ _ 16 c.args.places (each _ (λ x. search rules) _)
+overflow_shl-result c = Each2-splat _ _ 32 c.args.places (each _ (λ x. search rules) _)
 
 pub returns-clause-vectors : goal.returns-clause-vectors
 returns-clause-vectors c =

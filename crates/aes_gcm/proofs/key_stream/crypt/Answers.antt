@@ -12,14 +12,14 @@ returns c =
     let first : List ℕ = c.args.first in
     let old : List ℕ = c.args.text.now in
     let text : List ℕ = c.add_blocks.new.text in
-    let blocks : List (List ℕ) = take 7 (drop 1 c.args.turn.now) in
-    let seven : length blocks ≡ 7 = omega arith in
-    let byte : (k : ℕ) → k < 112 → slice_index (slice_index_or blocks ((k - 0) / 16) []) ((k - 0) % 16) ≡ key_byte cipher (inc32 first) k = λ k lt.
+    let blocks : List (List ℕ) = take 15 (drop 1 c.args.turn.now) in
+    let fifteen : length blocks ≡ 15 = omega arith in
+    let byte : (k : ℕ) → k < 240 → slice_index (slice_index_or blocks ((k - 0) / 16) []) ((k - 0) % 16) ≡ key_byte cipher (inc32 first) k = λ k lt.
     let same : k - 0 ≡ k = omega arith in
     let place : 0 + k ≡ k = omega arith in
     ap (λ (n : ℕ). slice_index (slice_index_or blocks (n / 16) []) (n % 16)) same
-    ∙ stream_byte cipher (inc32 first) (inc32 first) blocks 0 0 k (later_stream cipher first c.args.turn.now (omega arith) c.requires) refl refl (omega (arith, seven))
+    ∙ stream_byte cipher (inc32 first) (inc32 first) blocks 0 0 k (later_stream cipher first c.args.turn.now (omega arith) c.requires) refl refl (omega (arith, fifteen))
     ∙ ap (key_byte cipher (inc32 first)) place in
-    gctr_joined cipher first c.eight_after.result old text c.gctr.new.text c.min-front.result (omega arith) c.min-front.ensures c.eight_after.ensures
-    (λ k lt within. added.inside k (omega arith) (omega (arith, seven)) within ∙ ap (bit_xor (slice_index old k)) (byte k lt))
-    (λ k le. added.after k (omega (arith, seven))) c.gctr.ensures
+    gctr_joined cipher first c.sixteen_after.result old text c.gctr.new.text c.min-front.result (omega arith) c.min-front.ensures c.sixteen_after.ensures
+    (λ k lt within. added.inside k (omega arith) (omega (arith, fifteen)) within ∙ ap (bit_xor (slice_index old k)) (byte k lt))
+    (λ k le. added.after k (omega (arith, fifteen))) c.gctr.ensures

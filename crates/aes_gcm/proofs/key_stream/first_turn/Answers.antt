@@ -8,7 +8,7 @@ pub returns : goal.returns
 unfolding HasStream
 returns c = λ j lt.
     let cipher : List ℕ → List ℕ = aes256 c.args.keys.now in
-    let counters : List (List ℕ) = c.eight_counters.result in
-    let eight : j < 8 = omega arith in
-    ap (λ (blocks : List (List ℕ)). slice_index_or blocks j []) c.encrypt_blocks.ensures
-    ∙ get_or-map cipher counters j [] [] (omega arith) ∙ ap cipher (c.eight_counters.ensures j eight)
+    let counters : List (List ℕ) = c.sixteen_counters.result in
+    let sixteen : j < 16 = omega arith in
+    ap (λ (blocks : List (List ℕ)). slice_index_or blocks j []) c.encrypt_sixteen.ensures
+    ∙ get_or-map cipher counters j [] [] (omega arith) ∙ ap cipher (c.sixteen_counters.ensures j sixteen)

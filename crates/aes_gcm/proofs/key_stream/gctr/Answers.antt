@@ -18,21 +18,21 @@ turns-preserved c =
     let initial : List ℕ = c.args.initial in
     let turn : List (List ℕ) = c.first_turn-turn.result in
     let i : ℕ = c.turns.i in
-    let eight : length turn ≡ 8 = omega arith in
+    let sixteen : length turn ≡ 16 = omega arith in
     let mask : ℕ → ℕ = key_byte cipher initial in
-    let part : ℕ → ℕ = λ j. slice_index (slice_index_or turn ((128 * i + j - 128 * i) / 16) []) ((128 * i + j - 128 * i) % 16) in
-    let place : (j : ℕ) → j < 128 → part j ≡ mask (128 * i + j) = λ j lt.
-    let same : 128 * i + j - 128 * i ≡ j = omega arith in
+    let part : ℕ → ℕ = λ j. slice_index (slice_index_or turn ((256 * i + j - 256 * i) / 16) []) ((256 * i + j - 256 * i) % 16) in
+    let place : (j : ℕ) → j < 256 → part j ≡ mask (256 * i + j) = λ j lt.
+    let same : 256 * i + j - 256 * i ≡ j = omega arith in
     ap (λ (n : ℕ). slice_index (slice_index_or turn (n / 16) []) (n % 16)) same
-    ∙ stream_byte cipher initial c.turns.counter turn (8 * i) (128 * i) j c.first_turn-turn.ensures inv.counted (omega arith) (omega (arith, eight)) in
-    let next : 8 * i + 8 ≡ 8 * (i + 1) = omega arith in
+    ∙ stream_byte cipher initial c.turns.counter turn (16 * i) (256 * i) j c.first_turn-turn.ensures inv.counted (omega arith) (omega (arith, sixteen)) in
+    let next : 16 * i + 16 ≡ 16 * (i + 1) = omega arith in
     record {
-      counted = c.eight_after-next.ensures ∙ ap (λ (b : List ℕ). counter_block b 8) inv.counted
-          ∙ counter_block_from initial (8 * i) 8 ∙ ap (counter_block initial) next;
-      done = λ k below within. added_more c.args.text.now c.turns.text c.add_blocks.new.text mask part 0 (128 * i) 128 (omega arith)
+      counted = c.sixteen_after-next.ensures ∙ ap (λ (b : List ℕ). counter_block b 16) inv.counted
+          ∙ counter_block_from initial (16 * i) 16 ∙ ap (counter_block initial) next;
+      done = λ k below within. added_more c.args.text.now c.turns.text c.add_blocks.new.text mask part 0 (256 * i) 256 (omega arith)
           place (λ n _ lt in_text. inv.done n lt in_text) inv.rest
-          (λ j lt in_text. added.inside (128 * i + j) (omega arith) (omega (arith, eight)) in_text) added.before k (omega arith) (omega arith) within;
-      rest = λ k from. added.after k (omega (arith, eight)) ∙ inv.rest k (omega arith);
+          (λ j lt in_text. added.inside (256 * i + j) (omega arith) (omega (arith, sixteen)) in_text) added.before k (omega arith) (omega arith) within;
+      rest = λ k from. added.after k (omega (arith, sixteen)) ∙ inv.rest k (omega arith);
     }
 
 pub returns : goal.returns

@@ -1,7 +1,7 @@
 use Rattle.std.proofs.Common.{map, ap, ◌∙◌}
 use Rattle.aes_block.specs.Cipher.{cipher}
 use Rattle.aes_block.specs.KeyExpansion.{aes256, key_expansion}
-use Rattle.aes_bits.proofs.key_planes.KeyPlanes.encrypt_blocks.Goals as goal
+use Rattle.aes_bits.proofs.key_planes.KeyPlanes.encrypt_sixteen.Goals as goal
 
 pub returns : goal.returns
 unfolding aes256
