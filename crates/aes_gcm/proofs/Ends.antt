@@ -28,6 +28,13 @@ middle_of iv plain room len_iv len_room =
     ∙ ap (take (n - 16 - 16)) (drop_at iv (plain ++ room) 16 len_iv)
     ∙ take_at plain room (n - 16 - 16) (omega (arith, whole))
 
+-- what was written there
+pub middle_put : (old new : List ℕ) → 32 ≤ length old → length new ≡ length old - 16 - 16 → middle 16 16 (put_mid 16 (length old - 16 - 16) old new) ≡ new
+middle_put old new long size =
+    let back : List ℕ = post_of 16 (length old - 16 - 16) old in
+    let room : length back ≡ 16 = omega (arith, length-drop (length old - 16 - 16) (drop 16 old), length-drop 16 old, long) in
+    ap (middle 16 16) (sym (append_assoc (take 16 old) new back)) ∙ middle_of (take 16 old) new back (length-take-le 16 old (omega (arith, long))) room
+
 -- the ciphertext took the plaintext's place, and the IV was written before it
 abbrev pub begun : List ℕ → List ℕ → List ℕ → List ℕ
 begun old iv text = iv ++ drop 16 (put_mid 16 (length old - 16 - 16) old text)

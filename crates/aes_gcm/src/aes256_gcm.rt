@@ -82,6 +82,19 @@ impl Sealer for Aes256Gcm {
         ready.unseal_front(alloc, &sealed[..IV_LEN], extra, text, &tag, most)
     }
 
+    fn unseal_in_place(&self, key: &[u8; 32], extra: &[u8], text: &mut [u8], most: usize) -> bool {
+        if text.len() < IV_LEN + TAG_LEN {
+            return false;
+        }
+        let end = text.len() - TAG_LEN;
+        let mut iv = [0u8; IV_LEN];
+        iv.copy_from_slice(&text[..IV_LEN]);
+        let mut tag = [0u8; TAG_LEN];
+        tag.copy_from_slice(&text[end..]);
+        let ready = GcmKey::from_key(key);
+        ready.unseal_in_place(&iv, extra, &mut text[IV_LEN..end], &tag, most)
+    }
+
     ghost seals = { λ _ key iv extra plain len. seals-sealed_of key iv extra plain len };
 
     ghost lengths = { λ _ key extra text plain opens. length-opened_of key extra text plain opens };

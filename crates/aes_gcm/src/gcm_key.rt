@@ -1,8 +1,9 @@
 // A key of AES-256 in GCM, made ready (SP 800-38D, 7).
-ghost use Rattle.std.specs.Prelude.{◌≡◌, ◌≢◌, ◌↔◌, ◌+◌, ◌*◌, ◌%◌, ◌^◌, ◌<◌, ◌++◌, length, take, IfOk, OnOk, OnErr, IsNone};
+ghost use Rattle.std.specs.Prelude.{◌≡◌, ◌≢◌, ◌↔◌, ◌+◌, ◌*◌, ◌%◌, ◌^◌, ◌<◌, ◌++◌, false, length, take, IfOk, OnOk, OnErr, IsNone};
 ghost use Rattle.std.specs.Int.{w64, to_be_bytes};
 ghost use Rattle.std.specs.Option.{option_map};
 ghost use Rattle.aes_block.specs.KeyExpansion.{aes256};
+ghost use Rattle.seal_api.specs.Sealing.{shown};
 ghost use Rattle.aes_gcm.specs.Gcm.{bit_length, crypt, first_counter, hash_subkey, opened, padded, tag_of};
 ghost use Rattle.aes_gcm.specs.Gctr.{HasStream, gctr, inc32};
 ghost use Rattle.aes_gcm.specs.Ghash.{ghash};
@@ -115,6 +116,31 @@ impl GcmKey {
         let mut plain = Vec::new(alloc);
         append_crypted(&self.planes, counter, &turn, front, &mut plain)?;
         Ok(Some(plain))
+    }
+
+    /// Turns a ciphertext into its plaintext where it stands, as far as its first bytes, at most so many, where the tag over it
+    /// and the extra bytes is this one, and says whether it is (SP 800-38D, 7.2).
+    pub fn unseal_in_place(
+        &self,
+        iv: &[u8],
+        extra: &[u8],
+        text: &mut [u8],
+        tag: &[u8; 16],
+        most: usize,
+    ) -> bool
+        requires { 0 < length iv.now }
+        ensures opened { shown most result text.new ≡ option_map (take most) (opened (aes256 self.now) iv.now extra.now text.old tag.now) }
+        ensures refused { result ≡ false → text.new ≡ text.old }
+    {
+        let counter = self.first_counter(iv);
+        let turn = first_turn(&self.planes, counter);
+        let expected = self.tag_under(counter, &turn[0], extra, text);
+        if expected != *tag {
+            return false;
+        }
+        let len = most.min(text.len());
+        crypt(&self.planes, counter, &turn, &mut text[..len]);
+        true
     }
 
     /// The block that counts in the first place.

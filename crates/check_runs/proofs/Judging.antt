@@ -64,7 +64,7 @@ module _ {V : Type 0} {K : Type 0} (trace : V → Option (List Call)) (faults : 
       no = tt;
       violation = tt;
       of_blocks = tt;
-      noticed = λ why needs. (tower_lawful trace faults).gave_same (store_of e.mount) why;
+      noticed = (tower_lawful trace faults).gave_same (store_of e.mount);
     };
     calm = λ kept now s honest. refl;
   }

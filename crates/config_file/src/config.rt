@@ -85,6 +85,10 @@ impl Sealer for Cipher {
         Aes256Gcm.unseal_front(alloc, key, extra, sealed, most)
     }
 
+    fn unseal_in_place(&self, key: &[u8; 32], extra: &[u8], text: &mut [u8], most: usize) -> bool {
+        Aes256Gcm.unseal_in_place(key, extra, text, most)
+    }
+
     ghost seals = { λ _ key iv extra plain len. seals-sealed_of key iv extra plain len };
 
     ghost lengths = { λ _ key extra text plain opens. length-opened_of key extra text plain opens };

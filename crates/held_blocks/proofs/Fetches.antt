@@ -23,7 +23,6 @@ use Rattle.block_records.specs.BlockRecords.{opened}
 use Rattle.block_records.specs.RecordLaws.{cut_whole, opened-plain}
 use Rattle.block_records.specs.Verdicts.{bad, good, verdict}
 use Rattle.held_blocks.specs.Forgeries.{forged, was_put}
-use Rattle.held_blocks.proofs.ToOpen.{opened_needs}
 use Rattle.held_blocks.specs.Held.{Held, live_version, own, waiting, wanted}
 use Rattle.held_blocks.specs.Loads.{LoadAnswers, Came, Fetched, Loads}
 use Rattle.held_blocks.specs.ReadLaws.{gave_same, went_same}
@@ -52,8 +51,7 @@ came_went h old new id version file live came =
 pub fetched_went : (h : Held) (old new : Option (List Call)) (id : List ℕ) (version : ℕ) (r : Result (List ℕ) Fail) → live_version h id ≡ Some version
     → Fetched h old new id version r → WentOnByReads h old new
 fetched_went h old new id version (Ok payload) live f = came_went h old new id version f.0 live f.1
-fetched_went h old new id version (Err Memory) live (inl same) = subst (WentOnByReads h old) (sym same) (went_same h old)
-fetched_went h old new id version (Err Memory) live (inr f) = came_went h old new id version f.0 live f.1
+fetched_went h old new id version (Err Memory) live f = subst (WentOnByReads h old) (sym f) (went_same h old)
 fetched_went h old new id version (Err Fault) live f = subst (WentOnByReads h old) (sym f) (went_same h old)
 fetched_went h old new id version (Err (Violation why)) live f = came_went h old new id version f.0 live f.1
 
@@ -208,9 +206,7 @@ uncalled h old new why same gave = gave_same h old why (subst (λ t. GaveWrong h
 
 pub fetched_tells : (h : Held) (old new : Option (List Call)) (id : List ℕ) (version : ℕ) (e : Fail) → live_version h id ≡ Some version
     → Fetched h old new id version (Err e) → Tells e (GaveWrong h old new)
-fetched_tells h old new id version Memory live (inl same) = λ why plain gave. uncalled h old new why same gave
-fetched_tells h old new id version Memory live (inr f) = λ why plain gave.
-    opened_needs h.opens h.size id h.state.client version h.state.least f.0 why f.2 (came_gave h old new id version f.0 why live f.1 gave) plain
+fetched_tells h old new id version Memory live f = λ why gave. uncalled h old new why f gave
 fetched_tells h old new id version Fault live f = λ why gave. uncalled h old new why f gave
 fetched_tells h old new id version (Violation told) live f = λ why gave. same_why (sym (came_gave h old new id version f.0 why live f.1 gave) ∙ f.2)
 

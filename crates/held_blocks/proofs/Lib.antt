@@ -4,7 +4,6 @@ pub mod Freshness
 pub mod Fronts
 pub mod Loading
 pub mod Reopening
-pub mod ToOpen
 pub mod Untouched
 -- Handed on to crates above, which name their lemmas so and needn't list them.
 pub use Rattle.block_records.proofs as block_records_lemmas

@@ -1,5 +1,5 @@
 -- What a load of a block leaves and answers.
-use Rattle.std.specs.Prelude.{◌≡◌, ◌⊎◌, ℕ, ◌+◌, List, take, Vec, Result}
+use Rattle.std.specs.Prelude.{◌≡◌, ℕ, ◌+◌, List, take, Vec, Result}
 use Rattle.std.specs.declared.option.Option.{Option}
 use Rattle.std.specs.declared.option.Option.TheVariants.{None, Some}
 use Rattle.std.specs.declared.alloc.Global.{Global}
@@ -8,7 +8,6 @@ use Rattle.block_id.specs.declared.fail.Fail.{Fail}
 use Rattle.block_id.specs.declared.fail.Fail.TheVariants.{Memory, Fault, Violation}
 use Rattle.outside.specs.Trace.{block, Call}
 use Rattle.block_records.specs.redo_vault.Redo.{Gave}
-use Rattle.block_records.specs.sealed_store.BlockFiles.{IsToOpen}
 use Rattle.store_api.specs.Loads.{LoadAnswer}
 use Rattle.block_records.specs.Verdicts.{bad, good, verdict}
 use Rattle.held_blocks.specs.Held.{Held, live_version, waiting}
@@ -22,11 +21,11 @@ abbrev pub fetched_of : Result (Vec ℕ Global) Fail → Result (List ℕ) Fail
 fetched_of (Ok payload) = Ok payload.items
 fetched_of (Err fail) = Err fail
 
--- of a live id at this version: a payload or a reason by the verdict on what came; a fault without an answer; want of memory before one, or for opening it
+-- of a live id at this version: a payload or a reason by the verdict on what came; a fault or want of memory where nothing came
 abbrev pub Fetched : Held → Option (List Call) → Option (List Call) → List ℕ → ℕ → Result (List ℕ) Fail → Type 0
 Fetched h old new id version (Ok payload) =
     (file : Option (List ℕ)) × Came h old new id file × (verdict h.opens h.size id h.state.client version h.state.least file ≡ good payload)
-Fetched h old new id version (Err Memory) = (new ≡ old) ⊎ ((file : Option (List ℕ)) × Came h old new id file × IsToOpen h.size h.state.least file)
+Fetched h old new id version (Err Memory) = new ≡ old
 Fetched h old new id version (Err Fault) = new ≡ old
 Fetched h old new id version (Err (Violation why)) =
     (file : Option (List ℕ)) × Came h old new id file × (verdict h.opens h.size id h.state.client version h.state.least file ≡ bad why)

@@ -301,7 +301,7 @@ module _ {S : Type 0} {K : Type 0} (shows : Showing) (M : Meanings S) (H : Holdi
     since = unsaid_since a b changed reply long n.since;
     identity = n.identity;
     least = n.least;
-    noticed = λ why needs. n.noticed why;
+    noticed = n.noticed;
   }
 
   unsaid_room : (old new : Core S K) (asked : Asked) (reply : Reply) → IsLongReply reply

@@ -10,7 +10,7 @@ use Rattle.mount_core.specs.Answers.{answer_of_fail, Notices}
 -- where no wrong file came, none is passed over
 pub none_came : (answer : Answer) (gave : Why → Type 0) → ((why : Why) → gave why → ⊥) → Notices answer gave
 none_came (Violation told) gave none = λ why g. absurd (none why g)
-none_came Memory gave none = λ why needs. none why
+none_came Memory gave none = none
 none_came (Replied r) gave none = none
 none_came Spent gave none = none
 none_came FaultDirectory gave none = none
@@ -19,6 +19,6 @@ none_came Refused gave none = none
 
 -- the answer to a command that failed names what its failure does
 pub notices_of : (f : Fail) (P Q : Why → Type 0) → ((why : Why) → Q why → P why) → Tells f P → Notices (answer_of_fail f) Q
-notices_of FailMemory P Q fewer h = λ why needs q. h why needs (fewer why q)
+notices_of FailMemory P Q fewer h = λ why q. h why (fewer why q)
 notices_of Fault P Q fewer h = λ why q. h why (fewer why q)
 notices_of (FailViolation told) P Q fewer h = λ why q. h why (fewer why q)

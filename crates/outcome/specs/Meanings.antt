@@ -78,23 +78,9 @@ abbrev pub IsQuiet : {T : Type 0} → Result T Fail → ℕ → ℕ → Type 0
 IsQuiet (Ok answer) before now = now ≡ before
 IsQuiet (Err fail) before now = UnlessFault fail (now ≡ before)
 
--- what is wrong shows before the seal is opened, for which alone memory is needed
-abbrev pub NeedsNoMemory : Why → Type 0
-NeedsNoMemory Missing = Unit {0}
-NeedsNoMemory BadLength = Unit {0}
-NeedsNoMemory BadPrefix = Unit {0}
-NeedsNoMemory OldFormat = Unit {0}
-NeedsNoMemory NotOpened = ⊥
-NeedsNoMemory BadRecord = ⊥
-NeedsNoMemory (WrongId id) = ⊥
-NeedsNoMemory (ForeignClient client) = ⊥
-NeedsNoMemory (OldVersion known found) = ⊥
-NeedsNoMemory (AheadVersion known found) = ⊥
-NeedsNoMemory Structure = ⊥
-
--- a violation names whatever wrong file came; a fault is told where none came, and want of memory where none came that shows without memory
+-- a violation names whatever wrong file came; a fault and want of memory are told where none came
 abbrev pub Tells : Fail → (Why → Type 0) → Type 0
-Tells Memory gave = (why : Why) → NeedsNoMemory why → gave why → ⊥
+Tells Memory gave = (why : Why) → gave why → ⊥
 Tells Fault gave = (why : Why) → gave why → ⊥
 Tells (Violation told) gave = (why : Why) → gave why → why ≡ told
 

@@ -49,7 +49,7 @@ caused Fault a b c l h = omega arith
 caused (Violation why) a b c l h = tt
 
 tells : (e : Fail) (P Q : Why → Type 0) → ((why : Why) → Q why → P why) → Tells e P → Tells e Q
-tells Memory P Q f h = λ why needs q. h why needs (f why q)
+tells Memory P Q f h = λ why q. h why (f why q)
 tells Fault P Q f h = λ why q. h why (f why q)
 tells (Violation told) P Q f h = λ why q. h why (f why q)
 
@@ -136,7 +136,7 @@ module _ {S : Type 0} {M : Meanings S} {N : Type 0} {a b : S} where
 
   -- memory may always be wanting
   pub no_memory : {T U : Type 0} {x : T} {P : N → T → Type 0} {Q : N → U → Type 0} → Outcome M N a b (Ok x) P → Outcome M {T = U} N a b (Err Memory) Q
-  no_memory p = record { intact = p.intact; loaded = p.loaded; sound = p.sound; met = tt; fault = tt; quiet = p.quiet; noticed = λ why _. p.noticed why; value = λ _ _ _. tt; structure = λ _ _ _. tt }
+  no_memory p = record { intact = p.intact; loaded = p.loaded; sound = p.sound; met = tt; fault = tt; quiet = p.quiet; noticed = p.noticed; value = λ _ _ _. tt; structure = λ _ _ _. tt }
 
   -- what was read isn't of the grammar, which can't be where the needs hold
   pub unbuilt : {T U : Type 0} {x : T} {P : N → T → Type 0} {Q : N → U → Type 0} → Lawful M → Outcome M N a b (Ok x) P → ((n : N) → P n x → ⊥) → Outcome M {T = U} N a b (Err (Violation Structure)) Q

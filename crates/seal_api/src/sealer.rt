@@ -1,9 +1,9 @@
 // What a sealer does.
-ghost use Rattle.std.specs.Prelude.{◌≡◌, ◌≤◌, ◌+◌, ◌++◌, List, [], ℕ, length, take, IfOk, OnOk, OnErr};
+ghost use Rattle.std.specs.Prelude.{◌≡◌, ◌≤◌, ◌+◌, ◌++◌, List, [], ℕ, false, length, take, IfOk, OnOk, OnErr};
 ghost use Rattle.std.specs.declared.option.Option.{Option};
 ghost use Rattle.std.specs.declared.option.Option.TheVariants.{Some};
 ghost use Rattle.std.specs.Option.{option_map};
-ghost use Rattle.seal_api.specs.Sealing.{IsSealed, max_len, middle};
+ghost use Rattle.seal_api.specs.Sealing.{IsSealed, max_len, middle, shown};
 
 use block_id::Memory;
 use std::alloc::Global;
@@ -69,6 +69,12 @@ pub trait Sealer {
         most: usize,
     ) -> Result<Option<Vec<u8>>, Memory>
         ensures { IfOk result (λ answer. option_map (λ plain. plain.items) answer ≡ option_map (take most) (opens self.now key.now extra.now text.now)) };
+
+    /// Opens a sealed text where it stands, and says whether it opens: no memory is taken. Where it does, the first bytes of the
+    /// plaintext, at most so many, stand in the place of the ciphertext's; where it doesn't, nothing is changed.
+    fn unseal_in_place(&self, key: &[u8; 32], extra: &[u8], text: &mut [u8], most: usize) -> bool
+        ensures opened { shown most result (middle (iv_size self.now) 16 text.new) ≡ option_map (take most) (opens self.now key.now extra.now text.old) }
+        ensures refused { result ≡ false → text.new ≡ text.old };
 
     /// `seal_with` with no extra bytes.
     fn seal(&self, key: &[u8; 32], iv: &[u8], plain: &[u8], out: &mut Vec<u8>) -> Result<(), Memory>

@@ -1,10 +1,12 @@
 -- The front of what is seen, and that a plaintext is whole.
-use Rattle.std.proofs.Common.{◌≡◌, inl, ℕ, ◌+◌, ◌-◌, ◌≤◌, ◌==◌, Bool, true, false, List, length, take, drop, refl, ◌∙◌, ap, arith, length-drop}
+use Rattle.std.proofs.Common.{◌≡◌, ℕ, ◌+◌, ◌-◌, ◌≤◌, ◌==◌, Bool, true, false, List, [], ◌++◌, length, take, drop, refl, ◌∙◌, ap, arith, append-nil, length-drop, length-take-le}
 use Rattle.std.specs.Prelude.{nat_lt, if◌then◌else◌}
 use Rattle.std.specs.Option.{option_map}
 use Rattle.std.specs.declared.option.Option.{Option}
 use Rattle.std.specs.declared.option.Option.TheVariants.{None, Some}
 use Rattle.std.proofs.lemmas.Bool.{eqb-true}
+use Rattle.std.proofs.lemmas.List.{drop_all, drop_at}
+use borrow.Rule.Slice.PartMut.{put_mid}
 use Rattle.outside.specs.Trace.{Call}
 use Rattle.outside.specs.declared.vault.GetFail.{GetFail}
 use Rattle.outside.specs.declared.vault.GetFail.TheVariants.{Memory, Failed}
@@ -54,9 +56,18 @@ pub shown_whole : (opens : List ℕ → List ℕ → Option (List ℕ)) (size le
 shown_whole opens size least id None right low = tt
 shown_whole opens size least id (Some bytes) right low = sized_whole opens size least id bytes (length bytes == size) refl right low
 
+-- ---- a file that was opened where it stands
+
+-- what was written behind the prefix
+pub rest_written : (file new : List ℕ) → 16 ≤ length file → drop 16 (put_mid 16 (length file - 16) file new) ≡ new
+rest_written file new long =
+    let behind : List ℕ = drop (length file - 16) (drop 16 file) in
+    let none : behind ≡ [] = drop_all (length file - 16) (drop 16 file) (omega (arith, length-drop 16 file)) in
+    drop_at (take 16 file) (new ++ behind) 16 (length-take-le 16 file long) ∙ ap (λ (l : List ℕ). new ++ l) none ∙ append-nil new
+
 -- ---- no sight
 
 -- the directory's call failed
-pub failed_unseen : (size least : ℕ) (change : Option (Option (List ℕ))) (old new : Option (List Call)) (id : List ℕ) (e : GetFail) → new ≡ old → (e ≡ Failed → change ≡ None) → Unseen size least change old new id e
-failed_unseen size least change old new id Memory same none = inl same
-failed_unseen size least change old new id Failed same none = (same, none refl)
+pub failed_unseen : (change : Option (Option (List ℕ))) (old new : Option (List Call)) (e : GetFail) → new ≡ old → (e ≡ Failed → change ≡ None) → Unseen change old new e
+failed_unseen change old new Memory same none = same
+failed_unseen change old new Failed same none = (same, none refl)

@@ -2,7 +2,7 @@
 use Rattle.std.specs.Prelude.{◌≡◌, ℕ, ◌+◌, ◌==◌, List, nat_lt, length, take, drop, if◌then◌else◌}
 use Rattle.std.specs.declared.option.Option.{Option}
 use Rattle.std.specs.declared.option.Option.TheVariants.{None, Some}
-use Rattle.block_id.specs.Formats.{IsTaken, extra_of, format_in, number_of}
+use Rattle.block_id.specs.Formats.{extra_of, format_in, number_of}
 use Rattle.block_id.specs.declared.format.Format.{Format}
 
 -- what the rest of a file of this block opens to, by its format
@@ -13,11 +13,6 @@ opened_as opens id rest (Some f) = opens (extra_of f id) rest
 -- what a file of this block opens to, where a block has this size and `opens` says what a sealed text opens to with some extra bytes
 abbrev pub opens_file : (List ℕ → List ℕ → Option (List ℕ)) → ℕ → List ℕ → List ℕ → Option (List ℕ)
 opens_file opens size id bytes = if length bytes == size then opened_as opens id (drop 16 bytes) (format_in bytes) else None
-
--- a file of its length, of a format that is taken: what it shows is known once its seal was opened
-abbrev pub IsToOpen : ℕ → ℕ → Option (List ℕ) → Type 0
-IsToOpen size least None = ⊥
-IsToOpen size least (Some bytes) = (length bytes ≡ size) × IsTaken least bytes
 
 -- how the answer for a block's file is seen
 pub data SeenFile : Type 0 where

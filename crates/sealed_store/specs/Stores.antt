@@ -1,5 +1,5 @@
 -- What a store of sealed blocks was made with, and what it sees.
-use Rattle.std.specs.Prelude.{◌≡◌, ◌⊎◌, ℕ, ◌+◌, ◌≤◌, List}
+use Rattle.std.specs.Prelude.{◌≡◌, ℕ, ◌+◌, ◌≤◌, List}
 use Rattle.std.specs.declared.option.Option.{Option}
 use Rattle.std.specs.declared.option.Option.TheVariants.{None}
 use Rattle.block_id.specs.declared.sizes.TheConstants.{MIN_BLOCK, MAX_BLOCK}
@@ -9,7 +9,7 @@ use Rattle.outside.specs.declared.vault.GetFail.TheVariants.{Memory, Failed}
 use Rattle.redo_vault.specs.Redo.{Redo, Gave}
 use Rattle.sealed_store.specs.declared.seen.Seen.{Seen}
 use Rattle.sealed_store.specs.declared.seen.Seen.TheVariants.{Absent, BadLength, BadPrefix, OldFormat, NotOpened, Plain}
-use Rattle.sealed_store.specs.BlockFiles.{SeenFile, absent, bad_length, bad_prefix, old_format, not_opened, plain, front_seen, seen_file_in, IsToOpen, IsWhole}
+use Rattle.sealed_store.specs.BlockFiles.{SeenFile, absent, bad_length, bad_prefix, old_format, not_opened, plain, front_seen, seen_file_in, IsWhole}
 
 abbrev pub seen_file_of : Seen → SeenFile
 seen_file_of Absent = absent
@@ -49,8 +49,7 @@ pub record Sees (opens : List ℕ → List ℕ → Option (List ℕ)) (block_siz
   pub shows : sight ≡ front_seen most (seen_file_in opens block_size least id answer)
   pub whole : IsWhole block_size (seen_file_in opens block_size least id answer)
 
--- Nothing is seen: memory was wanting before a call, or to open what came; or the directory failed, as it was asked for what doesn't wait.
-abbrev pub Unseen : ℕ → ℕ → Option (Option (List ℕ)) → Option (List Call) → Option (List Call) → List ℕ → GetFail → Type 0
-Unseen block_size least change old new id Memory =
-    (new ≡ old) ⊎ ((answer : Option (List ℕ)) × Gave change old new (block id) (block_size + 1) answer × IsToOpen block_size least answer)
-Unseen block_size least change old new id Failed = (new ≡ old) × (change ≡ None)
+-- Nothing is seen, and no file came: memory was wanting, or the directory failed, as it was asked for what doesn't wait.
+abbrev pub Unseen : Option (Option (List ℕ)) → Option (List Call) → Option (List Call) → GetFail → Type 0
+Unseen change old new Memory = new ≡ old
+Unseen change old new Failed = (new ≡ old) × (change ≡ None)

@@ -22,7 +22,7 @@ const PREFIX_LEN: usize = 16;
 pub(crate) const IV_LEN: usize = 16;
 
 /// How many bytes stand before what hides the plaintext.
-const FRONT_LEN: usize = PREFIX_LEN + IV_LEN;
+pub(crate) const FRONT_LEN: usize = PREFIX_LEN + IV_LEN;
 
 /// Fills the front of a draft up with zeros to so many bytes, for which there is memory, and gives its IV.
 fn fill_up(block_size: usize, draft: &mut Vec<u8>) -> [u8; 16]

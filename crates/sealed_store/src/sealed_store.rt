@@ -127,7 +127,8 @@ impl<V: Vault, C: Sealer> SealedStore<V, C> {
     }
 
     /// What the directory gives for a block, asked for one byte more than a file has. Files of formats below `least`
-    /// aren't opened, and of a plaintext no more than its first `most` bytes are.
+    /// aren't opened, and of a plaintext no more than its first `most` bytes are. What came is seen without memory: want of it is
+    /// answered only where no file came.
     pub fn get_plain(
         &mut self,
         alloc: Global,
@@ -138,8 +139,7 @@ impl<V: Vault, C: Sealer> SealedStore<V, C> {
         requires { IsIntact (block_size_of self.old) (C.iv_size (cipher_of self.old)) }
         ensures sees { IfOk result (λ seen. Sees (C.opens (cipher_of self.old) (key_of self.old)) (block_size_of self.old) least most
             (change_at (block id.now.0) self.old.vault.list) (V.trace self.old.vault.vault) (V.trace self.new.vault.vault) id.now.0 (seen_file_of seen)) }
-        ensures unseen { IfErr result (Unseen (block_size_of self.old) least (change_at (block id.now.0) self.old.vault.list)
-            (V.trace self.old.vault.vault) (V.trace self.new.vault.vault) id.now.0) }
+        ensures unseen { IfErr result (Unseen (change_at (block id.now.0) self.old.vault.list) (V.trace self.old.vault.vault) (V.trace self.new.vault.vault)) }
         ensures without_a_call { IfSome (change_at (block id.now.0) self.old.vault.list) (λ _. self.new.vault ≡ self.old.vault) }
         ensures list { self.new.vault.list ≡ self.old.vault.list }
         ensures same { self.new ≡ record self.old { vault = self.new.vault } }
@@ -159,17 +159,8 @@ impl<V: Vault, C: Sealer> SealedStore<V, C> {
             least,
             most,
         };
-        match see(
-            alloc,
-            &self.cipher,
-            &self.key,
-            self.block_size,
-            &asked,
-            &answer,
-        ) {
-            Ok(seen) => Ok(seen),
-            Err(Memory) => Err(GetFail::Memory),
-        }
+        let block_size = self.block_size;
+        Ok(see(&self.cipher, &self.key, block_size, &asked, answer))
     }
 
     /// The draft of the file of whichever block with this IV that opens to this front of a plaintext, filled up with zeros, in

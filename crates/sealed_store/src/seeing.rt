@@ -1,14 +1,18 @@
 // How a block's file is seen.
-ghost use Rattle.std.specs.Prelude.{◌≡◌, ◌≤◌, nat_lt, IfOk, OnErr};
+ghost use Rattle.std.specs.Prelude.{◌≡◌, ◌≤◌, nat_lt, length, take, drop};
+ghost use Rattle.std.specs.Option.{option_map};
+ghost use Rattle.seal_api.specs.Sealing.{middle, shown};
 ghost use Rattle.block_id.specs.Formats.{prefix_of, format_in, extra_of, number_of};
 ghost use Rattle.outside.specs.View.{bytes_of};
-ghost use Rattle.sealed_store.specs.BlockFiles.{IsToOpen, front_seen, seen_file_in, seen_file_of_plain};
-ghost use Rattle.sealed_store.specs.Stores.{seen_file_of};
+ghost use Rattle.sealed_store.specs.declared.sealed_store.TheConstants.{SEAL_LEN};
+ghost use Rattle.sealed_store.specs.BlockFiles.{front_seen, seen_file_in, seen_file_of_plain};
+ghost use Rattle.sealed_store.specs.Stores.{IsIntact, seen_file_of};
 
 use crate::Seen;
-use block_id::{BlockId, Format, Memory};
+use crate::drafts::FRONT_LEN;
+use crate::sealed_store::SEAL_LEN;
+use block_id::{BlockId, Format};
 use seal_api::Sealer;
-use std::alloc::Global;
 
 /// What a file of each format begins with.
 pub(crate) const PREFIX_ALONE: [u8; 16] = *b"cryfs;block;0\0\x01\0";
@@ -47,62 +51,82 @@ pub(crate) struct Asked {
     pub most: usize,
 }
 
-/// What the rest of a block's file of this format shows, of its plaintext no more than so many first bytes.
-#[tactic(auto, using(crate::proofs::Fronts::front_of_plain))]
-fn see_rest<C: Sealer>(
-    alloc: Global,
+/// Opens the file of a block of this format behind its prefix, where it stands, as far as the plaintext's first bytes, at most so
+/// many, and says whether it opens.
+fn open_rest<C: Sealer>(
     cipher: &C,
     key: &[u8; 32],
     id: &BlockId,
     format: Format,
-    rest: &[u8],
     most: usize,
-) -> Result<Seen, Memory>
-    ensures { IfOk result (λ seen. seen_file_of seen ≡ front_seen most (seen_file_of_plain (C.opens cipher.now key.now (extra_of format id.now.0) rest.now))) }
+    file: &mut [u8],
+) -> bool
+    requires { 16 ≤ length file.old }
+    ensures { shown most result (middle (C.iv_size cipher.now) 16 (drop 16 file.new))
+        ≡ option_map (take most) (C.opens cipher.now key.now (extra_of format id.now.0) (drop 16 file.old)) }
 {
-    let opened = match format {
-        Format::Alone => cipher.unseal_front(alloc, key, &[], rest, most)?,
-        Format::WithId => cipher.unseal_front(alloc, key, &id.0, rest, most)?,
-    };
-    match opened {
-        Some(plain) => Ok(Seen::Plain(plain)),
-        None => Ok(Seen::NotOpened),
+    match format {
+        Format::Alone => cipher.unseal_in_place(key, &[], &mut file[16..], most),
+        Format::WithId => cipher.unseal_in_place(key, &id.0, &mut file[16..], most),
     }
 }
 
-/// What an answer shows.
+/// The first bytes, at most so many, of the plaintext that stands in an opened file, in the file's own memory.
+fn front_of_opened(most: usize, file: Vec<u8>) -> Vec<u8>
+    requires { SEAL_LEN ≤ length file.items }
+    ensures { result.items ≡ take most (middle 16 16 (drop 16 file.items)) }
+{
+    let mut plain = file;
+    let len = most.min(plain.len() - SEAL_LEN);
+    plain.copy_within(FRONT_LEN..FRONT_LEN + len, 0);
+    plain.truncate(len);
+    plain
+}
+
+/// What a block's file of this format shows, of its plaintext no more than so many first bytes.
+fn see_rest<C: Sealer>(
+    cipher: &C,
+    key: &[u8; 32],
+    id: &BlockId,
+    format: Format,
+    most: usize,
+    file: Vec<u8>,
+) -> Seen
+    requires iv { C.iv_size cipher.now ≡ 16 }
+    requires long { SEAL_LEN ≤ length file.items }
+    ensures { seen_file_of result ≡ front_seen most (seen_file_of_plain (C.opens cipher.now key.now (extra_of format id.now.0) (drop 16 file.items))) }
+{
+    let mut bytes = file;
+    if open_rest(cipher, key, id, format, most, &mut bytes) {
+        Seen::Plain(front_of_opened(most, bytes))
+    } else {
+        Seen::NotOpened
+    }
+}
+
+/// What an answer shows. It takes no memory: a file is opened where it stands.
 pub(crate) fn see<C: Sealer>(
-    alloc: Global,
     cipher: &C,
     key: &[u8; 32],
     block_size: usize,
     asked: &Asked,
-    answer: &Option<Vec<u8>>,
-) -> Result<Seen, Memory>
-    requires { 16 ≤ block_size }
-    ensures seen { IfOk result (λ seen. seen_file_of seen
-        ≡ front_seen asked.now.most (seen_file_in (C.opens cipher.now key.now) block_size asked.now.least asked.now.id.0 (bytes_of answer.now))) }
-    ensures err { OnErr result (IsToOpen block_size asked.now.least (bytes_of answer.now)) }
+    answer: Option<Vec<u8>>,
+) -> Seen
+    requires { IsIntact block_size (C.iv_size cipher.now) }
+    ensures { seen_file_of result
+        ≡ front_seen asked.now.most (seen_file_in (C.opens cipher.now key.now) block_size asked.now.least asked.now.id.0 (bytes_of answer)) }
 {
     let Some(bytes) = answer else {
-        return Ok(Seen::Absent);
+        return Seen::Absent;
     };
     if bytes.len() != block_size {
-        return Ok(Seen::BadLength);
+        return Seen::BadLength;
     }
-    let Some(format) = format_in(bytes) else {
-        return Ok(Seen::BadPrefix);
+    let Some(format) = format_in(&bytes) else {
+        return Seen::BadPrefix;
     };
     if is_old(format, asked.least) {
-        return Ok(Seen::OldFormat);
+        return Seen::OldFormat;
     }
-    see_rest(
-        alloc,
-        cipher,
-        key,
-        &asked.id,
-        format,
-        &bytes[16..],
-        asked.most,
-    )
+    see_rest(cipher, key, &asked.id, format, asked.most, bytes)
 }

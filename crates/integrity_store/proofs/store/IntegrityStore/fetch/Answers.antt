@@ -29,7 +29,7 @@ returns-in-Err-Memory-clause-fetched g c =
     let h = held_by g.C.Sealer.opens c.args.self.now in
     record {
       whole = Err Memory;
-      fetched = subst (Unseen h.size h.state.least (waiting h c.args.id.now.0) (g.V.Vault.trace c.args.self.now.sealed.vault.vault) (g.V.Vault.trace c.get_plain.new.self.vault.vault) c.args.id.now.0)
+      fetched = subst (Unseen (waiting h c.args.id.now.0) (g.V.Vault.trace c.args.self.now.sealed.vault.vault) (g.V.Vault.trace c.get_plain.new.self.vault.vault))
           c.in-Err-Memory.field-0-is c.in-Err-Memory.ensures.unseen;
       front = refl;
     }
@@ -37,6 +37,6 @@ returns-in-Err-Memory-clause-fetched g c =
 pub returns-in-Err-Failed-clause-fetched : goal.returns-in-Err-Failed-clause-fetched
 returns-in-Err-Failed-clause-fetched g c =
     let h = held_by g.C.Sealer.opens c.args.self.now in
-    let unseen = subst (Unseen h.size h.state.least (waiting h c.args.id.now.0) (g.V.Vault.trace c.args.self.now.sealed.vault.vault) (g.V.Vault.trace c.get_plain.new.self.vault.vault) c.args.id.now.0)
+    let unseen = subst (Unseen (waiting h c.args.id.now.0) (g.V.Vault.trace c.args.self.now.sealed.vault.vault) (g.V.Vault.trace c.get_plain.new.self.vault.vault))
     c.in-Err-Failed.field-0-is c.in-Err-Failed.ensures.unseen in
     record { whole = Err Fault; fetched = unseen.0; front = refl }

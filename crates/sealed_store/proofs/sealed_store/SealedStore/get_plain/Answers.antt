@@ -1,4 +1,4 @@
-use Rattle.std.proofs.Common.{rules, ◌≡◌, ℕ, ◌+◌, inr, List, refl, sym, ◌∙◌, ap, subst, arith}
+use Rattle.std.proofs.Common.{rules, ◌≡◌, ℕ, ◌+◌, List, refl, sym, ◌∙◌, ap, subst, arith}
 use Rattle.std.specs.Prelude.{IfErr}
 use Rattle.std.specs.declared.option.Option.{Option}
 use Rattle.std.specs.declared.result.Result.TheVariants.{Err}
@@ -6,7 +6,7 @@ use Rattle.outside.specs.Trace.{block}
 use Rattle.outside.specs.Changes.{change_at, cut}
 use Rattle.outside.specs.View.{bytes_of, change_of}
 use Rattle.redo_vault.specs.Redo.{Redo, Gave}
-use Rattle.sealed_store.specs.BlockFiles.{IsToOpen, front_seen}
+use Rattle.sealed_store.specs.BlockFiles.{front_seen}
 use Rattle.sealed_store.specs.Drafts.{told_list, sealed_change}
 use Rattle.sealed_store.specs.Stores.{Sealed, Sees, Unseen, seen_file_of, block_size_of, key_of, cipher_of}
 use Rattle.sealed_store.proofs.Files.{sealing_of, draft_seen}
@@ -53,11 +53,11 @@ returns-in_err-answer-clause-unseen g c =
     let error = c.in_err-answer.field-0.0 in
     let told = undrafted (g.C.Sealer.sealed s.cipher s.key) s.block_size s.drafts n s.vault.list c.in_default.ensures.none in
     let same : c.from_residual.result ≡ Err error = search rules in
-    subst (λ r. IfErr r (Unseen (block_size_of c.args.self.now) c.args.least (change_at n c.args.self.now.vault.list)
-    (g.V.Vault.trace c.args.self.now.vault.vault) (g.V.Vault.trace c.get.new.self.vault) c.args.id.now.0)) (sym same)
-    (subst (λ (t : Sealed g.row.V.Denot g.row.C.Denot). Unseen (block_size_of t) c.args.least (change_at n t.vault.list)
-    (g.V.Vault.trace t.vault.vault) (g.V.Vault.trace c.get.new.self.vault) c.args.id.now.0 error) c.self.view_is
-    (failed_unseen s.block_size c.args.least _ _ _ c.args.id.now.0 error c.in_err-answer.ensures.err (λ is. told ∙ c.in_err-answer.ensures.failed_by_a_call (ap Err is))))
+    subst (λ r. IfErr r (Unseen (change_at n c.args.self.now.vault.list)
+    (g.V.Vault.trace c.args.self.now.vault.vault) (g.V.Vault.trace c.get.new.self.vault))) (sym same)
+    (subst (λ (t : Sealed g.row.V.Denot g.row.C.Denot). Unseen (change_at n t.vault.list)
+    (g.V.Vault.trace t.vault.vault) (g.V.Vault.trace c.get.new.self.vault) error) c.self.view_is
+    (failed_unseen _ _ _ error c.in_err-answer.ensures.err (λ is. told ∙ c.in_err-answer.ensures.failed_by_a_call (ap Err is))))
 
 pub returns-in_err-answer-clause-without_a_call : goal.returns-in_err-answer-clause-without_a_call
 returns-in_err-answer-clause-without_a_call g c =
@@ -67,42 +67,20 @@ returns-in_err-answer-clause-without_a_call g c =
     sym (undrafted (g.C.Sealer.sealed s.cipher s.key) s.block_size s.drafts n s.vault.list c.in_default.ensures.none) ∙ ap (λ (t : Sealed g.row.V.Denot g.row.C.Denot). change_at n t.vault.list) c.self.view_is in
     if_same _ _ _ _ e (λ v. ap (λ (w : Redo g.row.V.Denot). record w { list = told_list s.drafts (g.C.Sealer.sealed s.cipher s.key) s.block_size w.list }) v ∙ ap (λ (t : Sealed g.row.V.Denot g.row.C.Denot). t.vault) c.self.view_is) c.get.ensures.without_a_call
 
-pub returns-in-Ok-see-clause-sees : goal.returns-in-Ok-see-clause-sees
-returns-in-Ok-see-clause-sees g c =
+pub returns-clause-sees : goal.returns-clause-sees
+returns-clause-sees g c =
     let s = c.self.inside in
     let n = block c.args.id.now.0 in
     subst (λ (t : Sealed g.row.V.Denot g.row.C.Denot). Sees (g.C.Sealer.opens (cipher_of t) (key_of t)) (block_size_of t) c.args.least c.args.most (change_at n t.vault.list)
-    (g.V.Vault.trace t.vault.vault) (g.V.Vault.trace c.get.new.self.vault) c.args.id.now.0 (seen_file_of c.in-Ok-see.seen)) c.self.view_is
+    (g.V.Vault.trace t.vault.vault) (g.V.Vault.trace c.get.new.self.vault) c.args.id.now.0 (seen_file_of c.see.result)) c.self.view_is
     (record {
       answer = bytes_of c.in_ok-answer.answer;
       gave = subst (λ (x : Option (Option (List ℕ))). Gave x (g.V.Vault.trace s.vault.vault) (g.V.Vault.trace c.get.new.self.vault) n (s.block_size + 1) (bytes_of c.in_ok-answer.answer))
           (sym (undrafted (g.C.Sealer.sealed s.cipher s.key) s.block_size s.drafts n s.vault.list c.in_default.ensures.none)) c.in_ok-answer.ensures.gave;
-      shows = c.in-Ok-see.ensures.seen;
+      shows = c.see.ensures;
       whole = shown_whole (g.C.Sealer.opens s.cipher s.key) s.block_size c.args.least c.args.id.now.0 (bytes_of c.in_ok-answer.answer)
           (longer_of g.C.Sealer.iv_size g.C.Sealer.opens g.met.C.Sealer.lengths s.cipher s.key c.self.invariant.0.iv) (omega (arith, c.self.invariant.0.least));
     })
-
-pub returns-in-Ok-see-clause-without_a_call : goal.returns-in-Ok-see-clause-without_a_call
-returns-in-Ok-see-clause-without_a_call g c =
-    let s = c.self.inside in
-    let n = block c.args.id.now.0 in
-    let e : change_at n s.vault.list ≡ change_at n c.args.self.now.vault.list =
-    sym (undrafted (g.C.Sealer.sealed s.cipher s.key) s.block_size s.drafts n s.vault.list c.in_default.ensures.none) ∙ ap (λ (t : Sealed g.row.V.Denot g.row.C.Denot). change_at n t.vault.list) c.self.view_is in
-    if_same _ _ _ _ e (λ v. ap (λ (w : Redo g.row.V.Denot). record w { list = told_list s.drafts (g.C.Sealer.sealed s.cipher s.key) s.block_size w.list }) v ∙ ap (λ (t : Sealed g.row.V.Denot g.row.C.Denot). t.vault) c.self.view_is) c.get.ensures.without_a_call
-
-pub returns-clause-unseen : goal.returns-clause-unseen
-returns-clause-unseen g c =
-    let s = c.self.inside in
-    let n = block c.args.id.now.0 in
-    let gave : Gave (change_at n s.vault.list) (g.V.Vault.trace s.vault.vault) (g.V.Vault.trace c.get.new.self.vault) n (s.block_size + 1) (bytes_of c.in_ok-answer.answer) = c.in_ok-answer.ensures.gave in
-    let all = subst (λ (x : Option (Option (List ℕ))). Gave x (g.V.Vault.trace s.vault.vault) (g.V.Vault.trace c.get.new.self.vault) n (s.block_size + 1) (bytes_of c.in_ok-answer.answer))
-    (sym (undrafted (g.C.Sealer.sealed s.cipher s.key) s.block_size s.drafts n s.vault.list c.in_default.ensures.none)) gave in
-    inr (
-      bytes_of c.in_ok-answer.answer,
-      subst (λ (t : Sealed g.row.V.Denot g.row.C.Denot). Gave (change_at n t.vault.list)
-          (g.V.Vault.trace t.vault.vault) (g.V.Vault.trace c.get.new.self.vault) n (block_size_of t + 1) (bytes_of c.in_ok-answer.answer)) c.self.view_is all,
-      subst (λ (t : Sealed g.row.V.Denot g.row.C.Denot). IsToOpen (block_size_of t) c.args.least (bytes_of c.in_ok-answer.answer)) c.self.view_is c.in-Err-see.ensures.err,
-    )
 
 pub returns-clause-without_a_call : goal.returns-clause-without_a_call
 returns-clause-without_a_call g c =
