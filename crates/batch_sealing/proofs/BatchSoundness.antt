@@ -83,7 +83,7 @@ module _ (a b : Held) (old new : Option (List Call)) (changes : Changes) (x : Ap
   foreign_same id last f = record { bytes = f.bytes; ok = f.ok; found = f.found; put = f.put; opens = opened_same id f.bytes ∙ f.opens; other = λ e. f.other (e ∙ client_same) }
 
   sealed_same : (id bytes : List ℕ) → IsSealed a id bytes → IsSealed b id bytes
-  sealed_same id bytes f = record { version = f.version; payload = f.payload; opens = opened_same id bytes ∙ (f.opens ∙ ap Some (sym (own_same id f.version f.payload))) }
+  sealed_same id bytes f = record { found = f.found; opens = opened_same id bytes ∙ f.opens; own_id = f.own_id }
 
   wanted_kept : (trace : Option (List Call)) (id : Id) → waiting b id ≡ waiting a id → fin.get b.state.lives id ≡ fin.get a.state.lives id → wanted b trace id ≡ wanted a trace id
   wanted_kept trace id waits lives =

@@ -34,11 +34,11 @@ pub record IsForeign (h : Held) (id : List ℕ) (last : Option LastChange) : Typ
   pub opens : opened h.opens h.size id bytes ≡ Some found
   pub other : found.client ≡ h.state.client → ⊥
 
--- these bytes open as this block's file to a record of it by the own client
+-- these bytes open as this block's file to a record of it, by whichever client
 pub record IsSealed (h : Held) (id bytes : List ℕ) : Type 0 where
-  pub version : ℕ
-  pub payload : List ℕ
-  pub opens : opened h.opens h.size id bytes ≡ Some (own h id version payload)
+  pub found : Record
+  pub opens : opened h.opens h.size id bytes ≡ Some found
+  pub own_id : found.id ≡ id
 
 -- what waits or was put last is the record of the known version, whatever else the own client put is of the past, and under a block's name nothing but its
 -- sealed records was put

@@ -7,7 +7,7 @@ ghost use Rattle.outside.specs.View.{bytes_of};
 ghost use Rattle.honest_outside.specs.Honest.{IsHonestKeeper};
 
 use memory_outside::MemoryKeeper;
-use outside::{Failed, GetFail, Keeper, Memory};
+use outside::{Failed, GetFail, Keeper, Memory, WholeKeeper};
 use std::alloc::Global;
 use std::marker::Model;
 
@@ -54,6 +54,8 @@ impl Keeper for HonestKeeper {
 
     ghost faults = { λ k. k.faults };
 
+    ghost takes = { λ bytes. Unit {0} };
+
     fn load(&mut self, alloc: Global) -> Result<Option<Vec<u8>>, GetFail> {
         self.keeper.load(alloc)
     }
@@ -65,4 +67,10 @@ impl Keeper for HonestKeeper {
     fn save(&mut self, bytes: &[u8]) -> Result<(), Failed> {
         self.keeper.save(bytes)
     }
+
+    ghost takes_plain = { λ bytes plain. tt };
+}
+
+impl WholeKeeper for HonestKeeper {
+    ghost takes_all = { λ bytes. tt };
 }

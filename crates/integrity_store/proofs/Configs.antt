@@ -49,7 +49,7 @@ module _ (h : Held) (list : FileChanges) (same : SameBlocks h.list list) where
       | inr f ↦ inr (record { bytes = f.bytes; ok = f.ok; found = f.found; put = f.put; opens = f.opens; other = f.other })
     ];
     past = λ x bytes r was opens mine. past_same trace r (s.past x bytes r was opens mine);
-    sealed = λ x bytes ok among. let f = s.sealed x bytes ok among in record { version = f.version; payload = f.payload; opens = f.opens };
+    sealed = λ x bytes ok among. let f = s.sealed x bytes ok among in record { found = f.found; opens = f.opens; own_id = f.own_id };
   }
 
 -- ---- a list that has a record

@@ -56,7 +56,7 @@ module _ (h : Held) (n : ℕ) (trace : List Call) (s : SoundAt h trace) where
         | inr f ↦ inr (record { bytes = f.bytes; ok = f.ok; found = f.found; put = f.put; opens = f.opens; other = f.other })
       ];
       past = λ id bytes r was opens mine. past_least r (s.past id bytes r was opens mine);
-      sealed = λ id bytes ok among. let f = s.sealed id bytes ok among in record { version = f.version; payload = f.payload; opens = f.opens };
+      sealed = λ id bytes ok among. let f = s.sealed id bytes ok among in record { found = f.found; opens = f.opens; own_id = f.own_id };
     }
 
 pub sound_one : (h : Held) (trace : List Call) → SoundAt h trace → SoundAt (with_least h 1) trace

@@ -162,7 +162,7 @@ module _ (h : Held) (trace : List Call) (e : ListEntry) (ok : Bool) (whole : IsW
       let there : waiting h x ≡ Some (Some bytes) = subst (λ name. change_at name h.list ≡ Some e.1) at waits ∙ ap Some wrote in
       let (life, known, live) = life_of_live (fin.get h.state.lives x) (fits_at h (block x, Some bytes) whole there).change in
       let (b, payload, same, fresh) = s.waits x life.version (Some bytes) live there in
-      record { version = life.version; payload = payload; opens = ap (opened h.opens h.size x) (same_Some _ _ same) ∙ fresh.opens }
+      record { found = own h x life.version payload; opens = ap (opened h.opens h.size x) (same_Some _ _ same) ∙ fresh.opens; own_id = refl }
 
   pub sound_call : SoundAt h trace → SoundAt h (call_for e ok ∷ trace)
   sound_call s = record {
@@ -264,7 +264,7 @@ module _ (h : Held) (trace : List Call) (e : ListEntry) (rest : FileChanges) (wh
     stands = λ id version live none. let (bytes, payload, is, f) = stands_left s id version live none in (bytes, payload, is, fresh_left id version bytes payload f);
     buried = λ id dead none. elim (buried_left s id dead none) [ inl gone ↦ inl gone | inr other ↦ inr (foreign_left id (last_change (block id) after) other) ];
     past = λ x bytes r was opens mine. past_left r (s.past x bytes r was opens mine);
-    sealed = λ x bytes k among. let f = s.sealed x bytes k among in record { version = f.version; payload = f.payload; opens = f.opens };
+    sealed = λ x bytes k among. let f = s.sealed x bytes k among in record { found = f.found; opens = f.opens; own_id = f.own_id };
   }
 
 -- ---- the configuration's file

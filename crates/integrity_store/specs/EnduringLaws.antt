@@ -6,7 +6,7 @@ use Rattle.std.proofs.Common.{refl, sym, ◌∙◌, ap, subst, inl, inr, arith}
 use Rattle.outside.specs.Trace.{config, block, Call, got, adds, At}
 use Rattle.outside.specs.Changes.{FileChanges, change_at}
 use Rattle.local_state.specs.Record.{PlainState, HasRecord, IsRecord, record_bytes}
-use Rattle.local_state.proofs.Records.{one_reading, mark_in, marked_record, written_record}
+use Rattle.local_state.proofs.Records.{one_reading, mark_in, marked_record, is_plain, written_record}
 use Rattle.local_state.specs.Record as records_of
 use Rattle.batch_sealing.specs.store_api.Content.{Content, SameContent, Changes as BlockChanges}
 use Rattle.batch_sealing.specs.store_api.Durables.{Identity, Enduring, IsConfigured, last_told, with_mark}
@@ -140,6 +140,8 @@ enduring_by held trace faults own = record {
   stands_unmarked = never_marked;
   marked = λ s with_list kept is. mark_of (held s).state (listed with_list (held s).list) kept is;
   long = λ s with_list kept is. mark_in (held s).state (listed with_list (held s).list) kept is;
+  plain = λ s with_list kept is. is_plain (held s).state (listed with_list (held s).list) kept is;
+  plain_marked = λ s with_list kept is. let m = mark_of (held s).state (listed with_list (held s).list) kept is in is_plain m.state m.list (with_mark kept) m.is_record;
   configures_now = λ s kept bytes is c. configures_of (held s).state (held s).list kept (trace s) bytes is c;
   configured_now = λ s kept bytes is c. configured_of (held s).state (held s).list kept (trace s) bytes is c;
   loaded_identity = λ a b x. ap identity_of x.held;

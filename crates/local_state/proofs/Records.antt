@@ -8,6 +8,7 @@ use Rattle.std.specs.FinMap as fin
 use Rattle.std.specs.Global.{Vec}
 use Rattle.std.proofs.lemmas.Bool.{and_from, lt-ltb, ltb-true, eqb-true}
 use Rattle.std.proofs.lemmas.List.{append-nil, nil_from_length, take-append-drop, take_at, drop_at}
+use Rattle.outside.specs.Plain.{IsPlain}
 use Rattle.outside.specs.declared.change.Pending.{Pending}
 use Rattle.local_state.specs.declared.state.State.{State}
 use Rattle.local_state.specs.declared.state.Form.{Form}
@@ -276,3 +277,12 @@ marked_record s list bytes is = record {
   allows = is.allows;
   is = ap (λ b. slice_set b 19 1) is.is ∙ sym (marked_by is.form s list);
 }
+
+plain_by : (f : Form) (s : PlainState) (list : List ListEntry) → IsPlain (bytes_by f s list)
+unfolding head_bytes bytes_by
+plain_by Older s list = refl
+plain_by Newer s list = refl
+
+-- every keeper takes a record
+pub is_plain : (s : PlainState) (list : List ListEntry) (bytes : List ℕ) → IsRecord s list bytes → IsPlain bytes
+is_plain s list bytes is = subst IsPlain (sym is.is) (plain_by is.form s list)

@@ -1,10 +1,12 @@
 // The table of known versions.
-ghost use Rattle.std.specs.Prelude.{◌≡◌, ◌+◌, ◌-◌, ◌^◌, ◌<◌, ◌≤◌, ◌↔◌, true, false, IsErr, map, IfSome, IfOk, MatchOption, OnOk, OnErr};
+ghost use Rattle.std.specs.Prelude.{◌≡◌, ◌≢◌, ◌+◌, ◌-◌, ◌^◌, ◌<◌, ◌≤◌, ◌↔◌, true, false, IsErr, map, IfSome, IfOk, MatchOption, OnOk, OnErr};
 ghost use Rattle.std.specs.FinMap as fin;
-ghost use Rattle.local_state.specs.Known.{life_at, version_at, is_live_at, is_used_at, version_if_live, is_last, raised_version, plain_entry, live_ids, CanRaise, FitsLife, FitLives, IsFirstFree};
+ghost use Rattle.local_state.specs.Known.{life_at, version_at, is_live_at, is_used_at, version_if_live, is_last, raised_version, zero_id, plain_entry, live_ids, CanRaise, FitsLife, FitLives, IsFirstFree};
 
 use crate::life::Life;
-use crate::lives::{add_life, change_life, first_free, life_of, live_of, put_life, sorted_lives};
+use crate::lives::{
+    add_life, change_life, first_free, life_of, live_of, put_life, set_life, sorted_lives,
+};
 use block_id::{BlockId, Memory};
 use std::alloc::Global;
 use std::collections::HashMap;
@@ -149,6 +151,20 @@ impl Known {
                 Ok(version)
             }
         }
+    }
+
+    /// Gives an id this life, in memory that was taken before.
+    pub fn put(&mut self, id: &BlockId, version: u64, live: bool)
+        requires room { 0 < self.old.spare }
+        requires not_zero { id.now.0 ≢ zero_id }
+        requires from_one { 0 < version }
+        ensures lives { self.new.lives ≡ fin.insert self.old.lives id.now.0 (record { version = version; live = live }) }
+        ensures spare { self.old.spare ≤ self.new.spare + 1 }
+        ensures fits { FitLives self.new.lives }
+    {
+        // With its bytes read the id is known to have 16.
+        let _bytes = id.0;
+        set_life(&mut self.lives, id, Life { version, live });
     }
 
     /// Gives an id a life that was read.

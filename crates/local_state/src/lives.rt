@@ -42,6 +42,18 @@ pub(crate) fn change_life(lives: &mut HashMap<BlockId, Life>, id: &BlockId, life
     }
 }
 
+/// Gives an id a life, in memory that was taken before.
+pub(crate) fn set_life(lives: &mut HashMap<BlockId, Life>, id: &BlockId, life: Life)
+    requires { 0 < spare lives.old }
+    ensures lives { lives_of lives.new.entries ≡ fin.insert (lives_of lives.old.entries) id.now.0 life }
+    ensures room { spare lives.old ≤ spare lives.new + 1 }
+{
+    match lives.insert(*id, life) {
+        Ok(_) => {}
+        Err(_) => unreachable!(),
+    }
+}
+
 /// Gives an id a life, in memory that is taken where it is needed.
 pub(crate) fn put_life(
     lives: &mut HashMap<BlockId, Life>,

@@ -16,7 +16,7 @@ use byte_fields::{take_array, take_bytes, take_id, take_u32, take_u64};
 use outside::{Change, FileName, Pending};
 use std::alloc::Global;
 
-fn flag_of(bytes: &[u8]) -> Option<(bool, &[u8])>
+pub fn flag_of(bytes: &[u8]) -> Option<(bool, &[u8])>
     ensures { option_map (λ x. (x.0, x.1.now)) result ≡ flag_at bytes.now }
 {
     match bytes {
@@ -38,7 +38,7 @@ fn form_of(bytes: &[u8]) -> Option<(Form, &[u8])>
     None
 }
 
-fn least_of(form: Form, bytes: &[u8]) -> Option<(u8, &[u8])>
+pub fn least_of(form: Form, bytes: &[u8]) -> Option<(u8, &[u8])>
     ensures { option_map (λ x. (x.0, x.1.now)) result ≡ least_at form bytes.now }
 {
     match form {
@@ -51,7 +51,7 @@ fn least_of(form: Form, bytes: &[u8]) -> Option<(u8, &[u8])>
 }
 
 #[tactic(auto, unfolding(crate::specs::Reading::known_at))]
-fn known_of(previous: BlockId, bytes: &[u8]) -> Option<((BlockId, Life), &[u8])>
+pub fn known_of(previous: BlockId, bytes: &[u8]) -> Option<((BlockId, Life), &[u8])>
     ensures reads { option_map (λ x. (plain_entry x.0, x.1.now)) result ≡ known_at previous.0 bytes.now }
     ensures next { IfSome result (λ x. IsNext previous.0 x.0.0.0 x.0.1) }
 {
@@ -94,7 +94,7 @@ fn table_of<'a>(known: &mut Known, bytes: &'a [u8]) -> Result<&'a [u8], StateErr
 }
 
 #[tactic(auto, unfolding(crate::specs::Reading::name_at))]
-fn name_of(bytes: &[u8]) -> Option<(FileName, &[u8])>
+pub fn name_of(bytes: &[u8]) -> Option<(FileName, &[u8])>
     ensures { option_map (λ x. (at_of x.0, x.1.now)) result ≡ name_at bytes.now }
 {
     let (is_block, rest) = flag_of(bytes)?;
@@ -124,7 +124,7 @@ fn change_in(alloc: Global, bytes: &[u8]) -> Result<(Change, &[u8]), StateError>
     Ok((Change::Bytes(Vec::from_slice(alloc, new)?), rest))
 }
 
-fn comes_after(previous: Option<FileName>, name: FileName) -> bool
+pub fn comes_after(previous: Option<FileName>, name: FileName) -> bool
     ensures { result ≡ comes_after (option_map at_of previous) (at_of name) }
 {
     match previous {

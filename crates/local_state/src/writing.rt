@@ -17,9 +17,9 @@ use std::alloc::Global;
 /// What a record of each form begins with.
 pub(crate) const MAGIC_OLDER: [u8; MAGIC_LEN] = *b"cryfs.localstate;1\0";
 
-pub(crate) const MAGIC_NEWER: [u8; MAGIC_LEN] = *b"cryfs.localstate;2\0";
+pub const MAGIC_NEWER: [u8; MAGIC_LEN] = *b"cryfs.localstate;2\0";
 
-pub(crate) const MAGIC_LEN: usize = 19;
+pub const MAGIC_LEN: usize = 19;
 
 /// Where the byte stands that marks a violation, in a record of either form.
 pub const MARK_PLACE: usize = MAGIC_LEN;

@@ -8,7 +8,7 @@ ghost use Rattle.memory_outside.specs.Keepers.{failure_at, failure_from, failure
 ghost use Rattle.outside.specs.View.{bytes_of};
 
 use crate::memory_vault::contains;
-use outside::{Failed, GetFail, Keeper, KeptRecord, Memory};
+use outside::{Failed, GetFail, Keeper, KeptRecord, Memory, WholeKeeper};
 use std::alloc::Global;
 use std::marker::Model;
 
@@ -128,6 +128,8 @@ impl Keeper for MemoryKeeper {
 
     ghost faults = { λ k. k.faults };
 
+    ghost takes = { λ bytes. Unit {0} };
+
     fn load(&mut self, alloc: Global) -> Result<Option<Vec<u8>>, GetFail>
         ensures ok { IfOk result (λ answer. bytes_of answer ≡ self.old.kept) }
         ensures kept { self.new.kept ≡ self.old.kept }
@@ -193,4 +195,10 @@ impl Keeper for MemoryKeeper {
             }
         }
     }
+
+    ghost takes_plain = { λ bytes plain. tt };
+}
+
+impl WholeKeeper for MemoryKeeper {
+    ghost takes_all = { λ bytes. tt };
 }

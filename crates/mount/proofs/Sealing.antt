@@ -16,7 +16,7 @@ use Rattle.outside.specs.Writes.{after_writes, call_for, StopsAt}
 use Rattle.rand_core.specs.Stream.{Stream, fill_bytes}
 use Rattle.store_api.specs.Content.{Id, Changes, id_cmp}
 use Rattle.store_api.specs.Draws.{IsLater}
-use Rattle.store_api.specs.Durables.{Durables}
+use Rattle.store_api.specs.Durables.{Durables, Identity}
 use Rattle.store_api.specs.Holdings.{has_id}
 use Rattle.store_api.specs.Ids.{ComeOfSeed}
 use Rattle.store_api.proofs.Draws.{later_same}
@@ -28,6 +28,10 @@ use Rattle.mount_tower.specs.held_blocks.Held.{Held, waiting}
 use Rattle.mount_tower.specs.held_blocks.Reads.{AllReads, WentOnByReads}
 use Rattle.mount_tower.specs.held_blocks.Stores.{OnlyRead}
 use Rattle.mount_tower.specs.held_blocks.StoreLaws.{has-keys}
+use Rattle.mount_tower.specs.held_blocks.Standing.{identity_of}
+use Rattle.mount_tower.specs.held_blocks.block_records.BlockRecords.{opened}
+use Rattle.mount.specs.Owning.{IsOwnFile, OwnWaits, AddsOwn, KeepsOwn}
+use Rattle.mount.specs.OwningLaws.{adds_own_nothing, owns_sealed, owns_then}
 use Rattle.mount_tower.specs.batch_sealing.Applied.{Applied, WaitsAfter, life_after}
 use Rattle.mount_tower.specs.batch_sealing.Draws.{AreDrawn, draws, given_in, given_ids, iv_in, iv_of}
 use Rattle.mount_tower.proofs.batch_sealing_lemmas.Sorted.{all_by, each_found, of_found}
@@ -303,6 +307,36 @@ module _ (a b : Held) (old new : Option (List Call)) (changes : Changes) (stream
             (used_among (come.drawn ++ Used) (among_later come.drawn Used) known id has);
       }
 
+-- ---- whose files they are
+
+read_sealed : (a b : Held) (old new : Option (List Call)) (was now : ℕ) → OnlyRead a b old new was now → AreSealed [] (view_by a old) (view_by b new)
+read_sealed a b old new was now read = record {
+  waits = λ id bytes is. inr (subst (λ (h : Held). change_at (block id) h.list ≡ Some (Some bytes)) read.held is);
+  adds = adds_reads a a.list old new read.trace;
+}
+
+same_file : {a b : List ℕ} {waits : Option (Option (List ℕ))} → waits ≡ Some (Some a) → waits ≡ Some (Some b) → a ≡ b
+same_file x y = cc
+
+-- what a batch seals is the client's of its store
+module _ (I : Identity) (a b : Held) (old new : Option (List Call)) (changes : Changes) (same : identity_of b ≡ I) (made : Applied a b old new changes) where
+  batch_own : OwnWaits I a.list → (id bytes : List ℕ) (said : Option (Option (List ℕ))) → WaitsAfter a b id said → waiting b id ≡ Some (Some bytes) → IsOwnFile I id bytes
+  batch_own own id bytes None waits now = own id bytes (sym waits ∙ now)
+  batch_own own id bytes (Some (Some payload)) waits now =
+      let mine : IsOwnFile (identity_of b) id bytes = record {
+        version = _;
+        payload = payload;
+        opens = ap (opened b.opens b.size id) (same_file now waits.1) ∙ waits.2.opens;
+      } in
+      subst (λ (i : Identity). IsOwnFile i id bytes) same mine
+  batch_own own id bytes (Some None) waits now = absurd (cc)
+
+  batch_owns : KeepsOwn I (view_by a old) (view_by b new)
+  batch_owns = record {
+    waits = λ own id bytes now. batch_own own id bytes (fin.get changes id) (made.waits id) now;
+    adds = λ own. subst (AddsOwn I old) (sym made.trace) (adds_own_nothing I old);
+  }
+
 -- ---- steps over the tower
 
 module _ {V : Type 0} (trace : V → Option (List Call)) (faults : V → ℕ) where
@@ -349,3 +383,16 @@ module _ {V : Type 0} (trace : V → Option (List Call)) (faults : V → ℕ) wh
   pub line_seals : (a b : Cached V) (stream left : Stream) → IsIncreasing (held_in a).list
       → LineDraws (tower_meanings trace faults) (tower_holdings trace) (tower_durables trace) tower_applied tower_drawn a b stream left → SealsFresh stream left (view_at a) (view_at b)
   line_seals a b stream left rises line = seeded_seals a line.synced b stream left rises line.wrote line.used line.once
+
+  -- what a line seals is its client's
+  pub line_owns : (I : Identity) (a b : Cached V) (stream left : Stream) → (tower_durables trace).identity b ≡ I → IsIncreasing (held_in a).list
+      → LineDraws (tower_meanings trace faults) (tower_holdings trace) (tower_durables trace) tower_applied tower_drawn a b stream left → KeepsOwn I (view_at a) (view_at b)
+  line_owns I a b stream left same rises line =
+      owns_then I (view_at a) (view_at line.synced) (view_at b)
+      (owns_sealed I (view_at a) (view_at line.synced) (wrote_sealed (tower_durables trace) (tower_holdings trace).used a line.synced rises line.wrote))
+      (elim line.once as (λ _. KeepsOwn I (view_at line.synced) (view_at b)) [
+        | inl none ↦ owns_sealed I (view_at line.synced) (view_at b) (read_sealed (held_in line.synced) (held_in b) (trace_in trace line.synced) (trace_in trace b) _ _ none.0)
+        | inr batch ↦ owns_then I (view_at line.synced) (view_at batch.last) (view_at b)
+            (owns_sealed I (view_at line.synced) (view_at batch.last) (read_sealed (held_in line.synced) (held_in batch.last) (trace_in trace line.synced) (trace_in trace batch.last) _ _ batch.loaded))
+            (batch_owns I (held_in batch.last) (held_in b) (trace_in trace batch.last) (trace_in trace b) batch.changes same batch.makes)
+      ])

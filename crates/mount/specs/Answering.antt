@@ -10,34 +10,11 @@ use Rattle.mount_core.specs.answers.Sessions.{Asked}
 use Rattle.mount_core.specs.Showing.{Showing}
 use Rattle.mount_core.specs.Answering.{LineAnswers, LineAnswered as CoreAnswered}
 use Rattle.mount.specs.declared.mount.Mount.{Mount}
-use Rattle.mount_tower.specs.Tower.{Cached, trace_in, tower_meanings, tower_holdings}
+use Rattle.mount_tower.specs.Tower.{tower_durables}
+use Rattle.mount.specs.Owning.{KeepsOwn}
+use Rattle.mount.specs.Sealing.{view_of}
+pub use Rattle.mount.specs.Telling.{store_of, calls_of, forgeries_of, lies_of, vault_faults, keeper_faults, version_of, kept_of}
 use Rattle.mount.specs.Tower.{tower}
-
--- ---- what a mount tells
-
-abbrev pub store_of : {V : Type 0} → {K : Type 0} → Mount V K → Cached V
-store_of mount = mount.core.blobs.tx.store
-
-abbrev pub calls_of : {V : Type 0} → {K : Type 0} → (V → Option (List Call)) → Mount V K → Option (List Call)
-calls_of trace mount = trace_in trace (store_of mount)
-
-abbrev pub forgeries_of : {V : Type 0} → {K : Type 0} → (V → Option (List Call)) → (V → ℕ) → Mount V K → ℕ
-forgeries_of trace faults mount = (tower_meanings trace faults).forgeries (store_of mount)
-
-abbrev pub lies_of : {V : Type 0} → {K : Type 0} → (V → Option (List Call)) → (V → ℕ) → Mount V K → ℕ
-lies_of trace faults mount = (tower_meanings trace faults).lies (store_of mount)
-
-abbrev pub vault_faults : {V : Type 0} → {K : Type 0} → (V → Option (List Call)) → (V → ℕ) → Mount V K → ℕ
-vault_faults trace faults mount = (tower_meanings trace faults).faults (store_of mount)
-
-abbrev pub keeper_faults : {V : Type 0} → {K : Type 0} → KeeperGhosts K → Mount V K → ℕ
-keeper_faults G mount = G.faults mount.core.saver.keeper
-
-abbrev pub version_of : {V : Type 0} → {K : Type 0} → (V → Option (List Call)) → Mount V K → List ℕ → ℕ
-version_of trace mount id = (tower_holdings trace).version (store_of mount) id
-
-abbrev pub kept_of : {V : Type 0} → {K : Type 0} → KeeperGhosts K → Mount V K → Option (List ℕ)
-kept_of G mount = G.kept mount.core.saver.keeper
 
 -- ---- an answer
 
@@ -49,3 +26,5 @@ LineAnswered shows trace faults G now mount kept present asked answer = CoreAnsw
 pub record MountAnswers {V : Type 0} {K : Type 0} (shows : Showing) (trace : V → Option (List Call)) (faults : V → ℕ) (G : KeeperGhosts K) (now : Instant) (old : Mount V K) (asked : Asked) (answer : Answer) (new : Mount V K) : Type 0 where
   pub opened : new.opened ≡ old.opened
   pub line : LineAnswers shows (tower trace faults G) now old.core asked answer new.core
+  -- what it seals is its own client's
+  pub own : KeepsOwn ((tower_durables trace).identity (store_of old)) (view_of trace old) (view_of trace new)

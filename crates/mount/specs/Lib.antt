@@ -4,12 +4,15 @@ pub mod Opening
 pub mod Making
 pub mod Formats
 pub mod Mounts
+pub mod Telling
 pub mod Answering
 pub mod Attaching
 pub mod Serving
 pub mod Sealing
 pub mod NamingLaws
 pub mod SealingLaws
+pub mod Owning
+pub mod OwningLaws
 -- Handed on to crates above, which name their words so and needn't list them.
 pub use Rattle.mount_tower.specs.aes_gcm as aes_gcm
 pub use Rattle.mount_tower.specs.batch_sealing as batch_sealing

@@ -17,7 +17,7 @@ use Rattle.mount_tower.specs.Opening.{IsLoaded}
 use Rattle.mount_tower.specs.Tower.{tower_durables, tower_holdings}
 use Rattle.local_state.specs.Record.{PlainState}
 use Rattle.mount.specs.declared.mount.Mount.{Mount}
-use Rattle.mount.specs.Answering.{store_of, calls_of}
+use Rattle.mount.specs.Telling.{store_of, calls_of}
 
 -- ---- what is drawn
 

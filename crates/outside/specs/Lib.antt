@@ -7,6 +7,7 @@ pub mod HonestLaws
 pub mod Kept
 pub mod NameLaws
 pub mod Names
+pub mod Plain
 pub mod Streams
 pub mod Trace
 pub mod View

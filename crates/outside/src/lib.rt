@@ -10,7 +10,7 @@ mod vault;
 
 pub use block_id::{Failed, Memory};
 pub use change::{Change, FileName, Pending};
-pub use keeper::Keeper;
+pub use keeper::{Keeper, WholeKeeper};
 pub use kept_record::KeptRecord;
 pub use sink::Sink;
 pub use source::Source;

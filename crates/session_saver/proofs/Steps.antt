@@ -78,6 +78,7 @@ module _ {S : Type 0} {K : Type 0} (M : Meanings S) (H : Holdings S) (D : Durabl
   may_mark applied endures saver store with_list is = record {
     marks = endures.marked store with_list saver.last.items is;
     long = endures.long store with_list saver.last.items is;
+    plain = endures.plain_marked store with_list saver.last.items is;
   }
 
   -- what is written now is a record, where what was handed in is what is written
@@ -249,7 +250,7 @@ module _ {S : Type 0} {K : Type 0} (M : Meanings S) (H : Holdings S) (D : Durabl
     configures = λ k bytes told is h. inl (record { kept = kept; trace = refl });
     last = inl (refl, refl, kept);
     keeps = inl kept;
-    can_mark = λ can. record { marks = can.marks; long = can.long };
+    can_mark = λ can. record { marks = can.marks; long = can.long; plain = can.plain };
   }
 
   -- the later two steps after the first

@@ -6,6 +6,7 @@ use Rattle.std.specs.declared.result.Result.TheVariants.{Ok, Err}
 use Rattle.store_api.specs.outcome.Meanings.{Meanings}
 use Rattle.outside.specs.Causes.{RoseBy}
 use Rattle.outside.specs.Going.{GoesOn}
+use Rattle.outside.specs.Plain.{IsPlain}
 use Rattle.outside.specs.Trace.{Call}
 use Rattle.outside.specs.Writes.{after_writes, StopsAt}
 use Rattle.outside.specs.declared.keeper.Keeper.{Ghosts as KeeperGhosts}
@@ -38,6 +39,7 @@ pub record Whole {S : Type 0} {K : Type 0} (D : Durables S) (G : KeeperGhosts K)
 pub record CanMark {K : Type 0} (R : Records) (saver : Saver K) : Type 0 where
   pub marks : R.marked (with_mark saver.last.items)
   pub long : mark_place < length saver.last.items
+  pub plain : IsPlain (with_mark saver.last.items)
 
 -- what is kept is a record of this store, with its list or with an empty one
 abbrev pub IsRecordOf : {S : Type 0} → Durables S → S → Option (List ℕ) → Type 0

@@ -1,6 +1,7 @@
 // The three steps of a sync.
 ghost use Rattle.std.specs.Prelude.{◌≡◌, ◌≤◌, ◌<◌, false, length, IfOk};
-ghost use Rattle.store_api.specs.Durables.{mark_place};
+ghost use Rattle.outside.specs.Plain.{IsPlain};
+ghost use Rattle.store_api.specs.Durables.{mark_place, with_mark};
 ghost use Rattle.session_saver.specs.Saving.{world, CanKeepShort, CanSync, IsLongKept, Leaves, Marks, Moves, Finishes, ShortSaved, Syncs};
 
 use block_id::{Failed, Memory};
@@ -156,6 +157,7 @@ impl<K: Keeper> Saver<K> {
     /// Marks the last record, and has it kept.
     pub fn mark(&mut self)
         requires long { mark_place < length self.old.last.items }
+        requires plain { IsPlain (with_mark self.old.last.items) }
         requires room { length self.old.last.items ≤ K.room self.old.keeper }
         ensures marks { Marks K.Keeper self.old self.new }
     {

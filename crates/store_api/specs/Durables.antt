@@ -7,6 +7,7 @@ use Rattle.outside.specs.Trace.{At, Call, config, block, got, adds}
 use Rattle.outside.specs.Changes.{change_at, IsIncreasing}
 pub use Rattle.outside.specs.Going.{GoesOn}
 use Rattle.outside.specs.Honest.{LastChange, last_change}
+use Rattle.outside.specs.Plain.{IsPlain}
 use Rattle.outcome.specs.Meanings.{Meanings}
 use Rattle.std.specs.FinMap.{get}
 use Rattle.store_api.specs.Content.{Content, SameContent, Changes}
@@ -103,6 +104,9 @@ pub record Enduring {S : Type 0} (M : Meanings S) (H : Holdings S) (applied : S 
   pub stands_unmarked : (identity : Identity) (kept : List ℕ) (trace : Option (List Call)) (content : Content) → R.stands identity kept trace content → R.marked kept → ⊥
   pub marked : (s : S) (with_list : Bool) (kept : List ℕ) → D.is_record s with_list kept → R.marked (with_mark kept)
   pub long : (s : S) (with_list : Bool) (kept : List ℕ) → D.is_record s with_list kept → mark_place < length kept
+  -- every keeper takes it, and takes it marked
+  pub plain : (s : S) (with_list : Bool) (kept : List ℕ) → D.is_record s with_list kept → IsPlain kept
+  pub plain_marked : (s : S) (with_list : Bool) (kept : List ℕ) → D.is_record s with_list kept → IsPlain (with_mark kept)
   -- what a store keeps now says of the configuration's file what its list and its trace do
   pub configures_now : (s : S) (kept bytes : List ℕ) → D.is_record s true kept → IsConfigured (D.list s) (D.trace s) bytes → R.configures kept (D.trace s) bytes
   pub configured_now : (s : S) (kept bytes : List ℕ) → D.is_record s true kept → R.configures kept (D.trace s) bytes → IsConfigured (D.list s) (D.trace s) bytes

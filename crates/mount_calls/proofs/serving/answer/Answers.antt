@@ -1,6 +1,6 @@
 use Rattle.std.proofs.Common.{refl}
 use Rattle.mount_blocks.specs.integrity_store.WaitingLaws.{in_order}
-use Rattle.mount_blocks.proofs.mount_lemmas.Sealing.{line_seals}
+use Rattle.mount_blocks.proofs.mount_lemmas.Sealing.{line_owns, line_seals}
 use Rattle.mount_calls.proofs.serving.answer.Goals as goal
 
 pub returns-clause-draws : goal.returns-clause-draws
@@ -10,4 +10,4 @@ returns-clause-draws g c =
 pub returns-clause-answers : goal.returns-clause-answers
 returns-clause-answers g c =
     let e = c.answer.ensures in
-    record { opened = refl; line = record { form = e.form; trees = e.trees; store = e.store; saver = e.saver.saver; keeps = e.saver.keeps } }
+    record { opened = refl; line = record { form = e.form; trees = e.trees; store = e.store; saver = e.saver.saver; keeps = e.saver.keeps }; own = line_owns g.V.Vault.trace g.V.Vault.faults _ c.args.mount.now.core.blobs.tx.store c.answer.new.core.blobs.tx.store _ _ e.store.identity (in_order _ _ c.requires.ready.core.intact.0.0.has_record) e.draws }

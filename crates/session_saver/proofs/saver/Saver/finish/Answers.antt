@@ -1,6 +1,7 @@
-use Rattle.std.proofs.Common.{◌≡◌, true, false, Some, Err, inl, inr, refl, ◌∙◌, ap, subst, arith}
+use Rattle.std.proofs.Common.{◌≡◌, true, false, Some, Err, inl, inr, refl, sym, ◌∙◌, ap, subst, arith}
 use Rattle.outside.specs.Causes.{UnlessFault}
 use Rattle.outside.specs.Going.{goes_on_stops}
+use Rattle.outside.specs.Plain.{IsPlain}
 use Rattle.session_saver.specs.declared.saver.SyncError.TheVariants.{FaultDirectory, FaultState}
 use Rattle.session_saver.proofs.Steps.{memory_directory, memory_state, directory_state, state_directory, ok_no_error, kept_either, kept_record, of_either, any_configures, may_mark, whole_changed, goes_on_written, long_stands, short_stands, short_configures, finishes_long}
 use Rattle.session_saver.proofs.saver.Saver.finish.Goals as goal
@@ -109,7 +110,8 @@ returns-in-Err g c =
     let last = old.last.items in
     let short = c.args.short.items in
     let short_after = w.keeps.empty_record short c.requires.short in
-    let kept = kept_either (G.kept keeper) (G.kept old.keeper) last c.deref.result.now short c.in-Err.ensures.err long.kept c.deref.ensures.value in
+    let taken = g.met.K.Keeper.takes_plain c.deref.result.now (subst IsPlain (sym c.deref.ensures.value) (endures.plain a false short c.requires.short)) in
+    let kept = kept_either (G.kept keeper) (G.kept old.keeper) last c.deref.result.now short (c.in-Err.ensures.err taken) long.kept c.deref.ensures.value in
     let of_store = kept_record D a (G.kept keeper) last short kept long.last c.requires.short in
     record {
       moves = record {
@@ -146,7 +148,7 @@ returns-in-Err g c =
             (w.keeps.kept_configures last bytes long.last (any_configures M H D R G g.S.BlocksMut.applied endures a k last bytes is long.last h))
             (short_configures M H D R G g.S.BlocksMut.applied endures b short bytes w.meant.intact none short_after (w.keeps.configures told k bytes is h));
         last = (long.last, of_store);
-        keeps = elim c.in-Err.ensures.err [ inl same ↦ inl same | inr is ↦ inr (short, is ∙ ap Some c.deref.ensures.value, c.requires.short) ];
+        keeps = elim (c.in-Err.ensures.err taken) [ inl same ↦ inl same | inr is ↦ inr (short, is ∙ ap Some c.deref.ensures.value, c.requires.short) ];
         can_mark = may_mark M H D R G g.S.BlocksMut.applied endures new a true long.last;
       };
     }
@@ -166,7 +168,8 @@ returns g c =
     let w = c.write_out.ensures in
     let none = c.in-Ok.ensures.writes.ok in
     let short_after = w.keeps.empty_record short c.requires.short in
-    let kept : G.kept keeper ≡ Some short = c.in-Ok-save.ensures.ok ∙ ap Some c.deref.ensures.value in
+    let taken = g.met.K.Keeper.takes_plain c.deref.result.now (subst IsPlain (sym c.deref.ensures.value) (endures.plain a false short c.requires.short)) in
+    let kept : G.kept keeper ≡ Some short = c.in-Ok-save.ensures.ok taken ∙ ap Some c.deref.ensures.value in
     record {
       moves = record {
         leaves = record {

@@ -1,5 +1,6 @@
 use Rattle.std.proofs.Common.{◌≡◌, ◌⊎◌, ◌≤◌, true, false, Some, Err, inl, inr, refl, sym, ◌∙◌, ap, subst, arith}
 use Rattle.outside.specs.Causes.{RoseBy}
+use Rattle.outside.specs.Plain.{IsPlain}
 use Rattle.outside.specs.Writes.{after_writes}
 use Rattle.session_saver.specs.declared.saver.SyncError.TheVariants.{FaultDirectory, FaultState}
 use Rattle.session_saver.proofs.Steps.{true_is_false, ok_no_error, state_directory, kept_or_new, unwritten_stands, written_is, any_configures, failed_save, kept_or_record, leaves_same, moves_memory, moves_since, moves_stopped, record_after, moves_to, moves_from, finishes_from, syncs_to, long_kept_to, syncs_memory, syncs_on}
@@ -101,8 +102,10 @@ returns-in-Err-save g c =
     let endures = g.met.S.Durable.enduring in
     let long = D.local_record_of a true in
     let is = endures.written a true c.requires.intact in
+    let written = c.deref.ensures.value ∙ c.in-Ok.ensures.record_ in
+    let taken = g.met.K.Keeper.takes_plain c.deref.result.now (subst IsPlain (sym written) (endures.plain a true long is)) in
     let kept : (G.kept keeper ≡ G.kept old.keeper) ⊎ (G.kept keeper ≡ Some long) =
-    kept_or_new (G.kept keeper) (G.kept c.record_to_save-2.new.keeper) (G.kept old.keeper) c.deref.result.now long c.in-Err-save.ensures.err (q.kept ∙ p.kept) (c.deref.ensures.value ∙ c.in-Ok.ensures.record_) in
+    kept_or_new (G.kept keeper) (G.kept c.record_to_save-2.new.keeper) (G.kept old.keeper) c.deref.result.now long (c.in-Err-save.ensures.err taken) (q.kept ∙ p.kept) written in
     let calm = q.faults ∙ p.faults in
     record {
       moves = moves_to M H D R G old new a a b (Err FaultState) same
@@ -115,7 +118,7 @@ returns-in-Err-save g c =
         configures = λ k bytes told also h. failed_save M H D R G (λ kept. R.configures kept (D.trace a) bytes) old new a kept (any_configures M H D R G g.S.BlocksMut.applied endures a k long bytes also is h);
         last = inl (refl, refl, kept);
         keeps = kept_or_record M H D R G a (G.kept keeper) (G.kept old.keeper) is kept;
-        can_mark = λ can. record { marks = can.marks; long = can.long };
+        can_mark = λ can. record { marks = can.marks; long = can.long; plain = can.plain };
       });
     }
 
@@ -136,11 +139,13 @@ returns g c =
     let q = c.record_to_save-2.ensures in
     let same = q.same ∙ p.same in
     let calm = c.in-Ok-save.ensures.quiet ∙ q.faults ∙ p.faults in
+    let is = written_is M H D R G g.S.BlocksMut.applied g.met.S.Durable.enduring a true c.in-Ok.bytes.items c.requires.intact c.in-Ok.ensures.record_ in
+    let taken = g.met.K.Keeper.takes_plain c.deref.result.now (subst IsPlain (sym c.deref.ensures.value) (g.met.S.Durable.enduring.plain a true c.in-Ok.bytes.items is)) in
     record {
       moves = moves_from M H D R G old new a m b c.finish.result same (moves_since M H D R G old mid new m b c.finish.result calm c.finish.ensures.moves);
       syncs = syncs_on M H D R G old mid new a b c.in-Ok.bytes.items c.finish.result c.if-not-self.false
-          (c.in-Ok-save.ensures.ok ∙ ap Some c.deref.ensures.value)
-          (written_is M H D R G g.S.BlocksMut.applied g.met.S.Durable.enduring a true c.in-Ok.bytes.items c.requires.intact c.in-Ok.ensures.record_)
+          (c.in-Ok-save.ensures.ok taken ∙ ap Some c.deref.ensures.value)
+          is
           (finishes_from M H D R G mid new a m b c.finish.result same c.finish.ensures.finishes);
     }
 
@@ -153,12 +158,14 @@ finish-requires-clause-long g c =
     let G = g.K.Keeper in
     let a = c.args.store.now in
     let mid = record c.args.self.now { keeper = c.save.new.self; last = c.in-Ok.bytes } in
+    let is = written_is M H D R G g.S.BlocksMut.applied g.met.S.Durable.enduring a true c.in-Ok.bytes.items c.requires.intact c.in-Ok.ensures.record_ in
+    let taken = g.met.K.Keeper.takes_plain c.deref.result.now (subst IsPlain (sym c.deref.ensures.value) (g.met.S.Durable.enduring.plain a true c.in-Ok.bytes.items is)) in
     long_kept_to M H D R G mid a c.record_to_save-2.new.store (c.record_to_save-2.ensures.same ∙ c.record_to_save.ensures.same)
     (record {
       intact = c.requires.intact;
       room = omega (arith, c.in-Ok.ensures.fits, c.in-Ok.ensures.room, c.record_to_save-2.ensures.room, c.save.ensures.room);
-      kept = c.in-Ok-save.ensures.ok ∙ ap Some c.deref.ensures.value;
-      last = written_is M H D R G g.S.BlocksMut.applied g.met.S.Durable.enduring a true c.in-Ok.bytes.items c.requires.intact c.in-Ok.ensures.record_;
+      kept = c.in-Ok-save.ensures.ok taken ∙ ap Some c.deref.ensures.value;
+      last = is;
       changed = c.if-not-self.false;
     })
 
