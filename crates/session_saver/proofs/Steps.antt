@@ -229,6 +229,7 @@ module _ {S : Type 0} {K : Type 0} (M : Meanings S) (H : Holdings S) (D : Durabl
     stands = λ now sound unmarked is. (new.last.items, kept, long_stands applied endures a b new.last.items now identity is (stands new.last.items sound unmarked last));
     configures = λ k bytes told is h. (new.last.items, kept, waiting new.last.items bytes last (any_configures applied endures a k new.last.items bytes is last h));
     last = after;
+    stands_last = λ now sound unmarked is. long_stands applied endures a b new.last.items now identity is (stands new.last.items sound unmarked last);
     keeps = inl same;
     can_mark = may_mark applied endures new a true last;
   }
@@ -239,6 +240,7 @@ module _ {S : Type 0} {K : Type 0} (M : Meanings S) (H : Holdings S) (D : Durabl
     stands = z.stands;
     configures = z.configures;
     last = z.last;
+    stands_last = z.stands_last;
     keeps = elim z.keeps [ inl stays ↦ inl (stays ∙ same) | inr short ↦ inr short ];
     can_mark = z.can_mark;
   }
@@ -249,6 +251,7 @@ module _ {S : Type 0} {K : Type 0} (M : Meanings S) (H : Holdings S) (D : Durabl
     stands = λ now sound unmarked same. inl (record { kept = kept; trace = refl });
     configures = λ k bytes told is h. inl (record { kept = kept; trace = refl });
     last = inl (refl, refl, kept);
+    stands_last = λ was now h sound unmarked same. inl h;
     keeps = inl kept;
     can_mark = λ can. record { marks = can.marks; long = can.long; plain = can.plain };
   }
@@ -261,6 +264,7 @@ module _ {S : Type 0} {K : Type 0} (M : Meanings S) (H : Holdings S) (D : Durabl
     stands = λ now sound unmarked same. saved old new a b now result (z.stands now sound unmarked same);
     configures = λ k bytes told also h. saved_config old new a b bytes result (z.configures k bytes told also h);
     last = inr z.last;
+    stands_last = λ was now h sound unmarked same. inr (z.stands_last now sound unmarked same);
     keeps = inr (elim z.keeps [ inl stays ↦ (long, true, stays ∙ kept, is) | inr short ↦ (short.0, false, short.1, short.2) ]);
     can_mark = λ can. z.can_mark;
   }

@@ -168,6 +168,8 @@ pub record Finishes {S : Type 0} {K : Type 0} (W : World S K) (old : Saver K) (a
   pub stands : (now : Content) → W.meanings.sound a → (W.durables.identity a).marked ≡ false → SameContent now (W.holdings.content a) → RepresentsContent W.records (W.durables.identity b) (W.keeper.kept new.keeper) (W.durables.trace b) now
   pub configures : (kept bytes : List ℕ) → W.holdings.told a ≡ true → W.durables.is_record a true kept → W.records.configures kept (W.durables.trace a) bytes → KeptConfigures W.records (W.keeper.kept new.keeper) (W.durables.trace b) bytes
   pub last : LastAfterLong W.durables W.keeper a new result
+  -- so does the last record, whether it is kept or not: a mark of it can be taken off
+  pub stands_last : (now : Content) → W.meanings.sound a → (W.durables.identity a).marked ≡ false → SameContent now (W.holdings.content a) → W.records.stands (W.durables.identity b) new.last.items (W.durables.trace b) now
   pub keeps : (W.keeper.kept new.keeper ≡ W.keeper.kept old.keeper) ⊎ KeepsEmpty W.durables a (W.keeper.kept new.keeper)
   pub can_mark : CanMark W.records new
 
@@ -177,6 +179,9 @@ pub record Syncs {S : Type 0} {K : Type 0} (W : World S K) (old : Saver K) (a : 
   pub stands : (now : Content) → W.meanings.sound a → (W.durables.identity a).marked ≡ false → SameContent now (W.holdings.content a) → Saved W.durables W.records W.keeper old a new b now result
   pub configures : (kept bytes : List ℕ) → W.holdings.told a ≡ true → W.durables.is_record a true kept → W.records.configures kept (W.durables.trace a) bytes → SavedConfig W.durables W.records W.keeper old a new b bytes result
   pub last : LastBeforeLong W.durables W.keeper old a new b result ⊎ LastAfterLong W.durables W.keeper a new result
+  -- what the last record stood for it stands for, or for what is now
+  pub stands_last : (was now : Content) → W.records.stands (W.durables.identity a) old.last.items (W.durables.trace a) was → W.meanings.sound a → (W.durables.identity a).marked ≡ false → SameContent now (W.holdings.content a)
+      → W.records.stands (W.durables.identity b) new.last.items (W.durables.trace b) was ⊎ W.records.stands (W.durables.identity b) new.last.items (W.durables.trace b) now
   pub keeps : (W.keeper.kept new.keeper ≡ W.keeper.kept old.keeper) ⊎ IsRecordOf W.durables a (W.keeper.kept new.keeper)
   pub can_mark : CanMark W.records old → CanMark W.records new
 

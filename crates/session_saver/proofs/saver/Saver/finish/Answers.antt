@@ -148,6 +148,7 @@ returns-in-Err g c =
             (w.keeps.kept_configures last bytes long.last (any_configures M H D R G g.S.BlocksMut.applied endures a k last bytes is long.last h))
             (short_configures M H D R G g.S.BlocksMut.applied endures b short bytes w.meant.intact none short_after (w.keeps.configures told k bytes is h));
         last = (long.last, of_store);
+        stands_last = λ now sound unmarked same. long_stands M H D R G g.S.BlocksMut.applied endures a b last now w.writes.identity same (w.keeps.stands last sound unmarked long.last);
         keeps = elim (c.in-Err.ensures.err taken) [ inl same ↦ inl same | inr is ↦ inr (short, is ∙ ap Some c.deref.ensures.value, c.requires.short) ];
         can_mark = may_mark M H D R G g.S.BlocksMut.applied endures new a true long.last;
       };
@@ -202,6 +203,7 @@ returns g c =
             (short, kept, short_stands M H D R G g.S.BlocksMut.applied endures a b short now w.meant.intact (w.meant.sound sound) unmarked w.writes.identity none short_after (w.stays.content (g.met.S.Blocks.steady.sound_told a sound)) same);
         configures = λ k bytes told is h. (short, kept, short_configures M H D R G g.S.BlocksMut.applied endures b short bytes w.meant.intact none short_after (w.keeps.configures told k bytes is h));
         last = c.requires.short;
+        stands_last = λ now sound unmarked same. short_stands M H D R G g.S.BlocksMut.applied endures a b short now w.meant.intact (w.meant.sound sound) unmarked w.writes.identity none short_after (w.stays.content (g.met.S.Blocks.steady.sound_told a sound)) same;
         keeps = inr (short, kept, c.requires.short);
         can_mark = may_mark M H D R G g.S.BlocksMut.applied endures (record { keeper = keeper; last = c.args.short; changed = false }) a false c.requires.short;
       };

@@ -40,6 +40,7 @@ returns-then-not-self g c =
         stands = λ now sound unmarked as_now. (short, kept, unwritten_stands M H D R G g.S.BlocksMut.applied endures a short now c.requires.intact sound unmarked is as_now);
         configures = λ k bytes told also h. (short, kept, any_configures M H D R G g.S.BlocksMut.applied endures a k short bytes also is h);
         last = inr (c.requires.whole.last same);
+        stands_last = λ was now h sound unmarked as_now. inl h;
         keeps = inl refl;
         can_mark = λ can. can;
       };
@@ -117,6 +118,7 @@ returns-in-Err-save g c =
             (unwritten_stands M H D R G g.S.BlocksMut.applied endures a long now c.requires.intact sound unmarked is same);
         configures = λ k bytes told also h. failed_save M H D R G (λ kept. R.configures kept (D.trace a) bytes) old new a kept (any_configures M H D R G g.S.BlocksMut.applied endures a k long bytes also is h);
         last = inl (refl, refl, kept);
+        stands_last = λ was now h sound unmarked same. inl h;
         keeps = kept_or_record M H D R G a (G.kept keeper) (G.kept old.keeper) is kept;
         can_mark = λ can. record { marks = can.marks; long = can.long; plain = can.plain };
       });
