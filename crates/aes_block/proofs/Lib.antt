@@ -2,3 +2,12 @@ pub mod SubByte
 pub mod Xor
 pub mod States
 pub mod Keys
+pub mod Bytes
+pub mod Lanes
+pub mod Spread
+pub mod Swaps
+pub mod Circuits
+pub mod BitsSBox
+pub mod Blocks
+pub mod Steps
+pub mod MixColumns

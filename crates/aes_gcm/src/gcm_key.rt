@@ -10,8 +10,7 @@ ghost use Rattle.aes_gcm.specs.Ghash.{ghash};
 
 use crate::hash_key::HashKey;
 use crate::key_stream::{add_block, crypt, first_turn};
-use aes_bits::KeyPlanes;
-use aes_block::KeySchedule;
+use aes_block::{KeyPlanes, KeySchedule};
 use block_id::Memory;
 use std::alloc::{AllocError, Global};
 use std::marker::Model;

@@ -4,7 +4,7 @@ ghost use Rattle.aes_block.specs.KeyExpansion.{aes256};
 ghost use Rattle.aes_gcm.specs.Gctr.{HasStream, gctr, inc32};
 
 use crate::counter::{sixteen_after, sixteen_counters};
-use aes_bits::KeyPlanes;
+use aes_block::KeyPlanes;
 use std::simd::u8x16;
 
 /// The bytes of a block.

@@ -1,16 +1,16 @@
 // Work on one tree of blocks in memory.
 ghost use Rattle.std.specs.Prelude.{◌<◌, ◌≤◌, ◌^◌};
-ghost use Rattle.map_store.specs.store_api.Txs.{intact_in};
+ghost use Rattle.memory_stores.specs.store_api.Txs.{intact_in};
 
 use block_id::{BlockId, Fail};
-use map_store::MapStore;
-use map_store::store_api::{Blocks, BlocksMut, Tx};
+use data_ranges::data_reads::{new_tree, read_range};
+use data_ranges::{resize, write_range};
+use memory_stores::MapStore;
+use memory_stores::store_api::{Blocks, BlocksMut, Tx};
 use rand_core::Rng;
 use rand_pcg::Pcg32;
 use std::alloc::Global;
 use std::io;
-use tree_ranges::tree_calls::{new_tree, read_range};
-use tree_ranges::{resize, write_range};
 
 /// The bytes of a payload, as in a block file of 16,384.
 const PAYLOAD: usize = 16306;

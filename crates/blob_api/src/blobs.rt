@@ -1,8 +1,8 @@
 // A store of byte lists under ids.
 ghost use Rattle.std.specs.Prelude.{◌≡◌, ◌≤◌, ◌+◌, length, take, drop};
 ghost use Rattle.std.specs.FinMap.{get, insert, remove};
-ghost use Rattle.outcome.specs.Meanings.{Meanings, Lawful};
-ghost use Rattle.outcome.specs.Outcome.{Outcome};
+ghost use Rattle.store_outcome.specs.Meanings.{Meanings, Lawful};
+ghost use Rattle.store_outcome.specs.Outcome.{Outcome};
 ghost use Rattle.block_id.specs.Contents.{resized, written};
 ghost use Rattle.blob_api.specs.BlobMap.{BlobHoldings, BlobsSteady, StandsForMap, Has, IsNew, IsSparing};
 

@@ -5,9 +5,9 @@ use Rattle.std.specs.FinMap.{insert, remove, len}
 use Rattle.block_id.specs.declared.fail.Fail.{Fail}
 use Rattle.block_id.specs.declared.id.BlockId.{BlockId}
 use Rattle.block_id.specs.Contents.{pieces}
-use Rattle.blob_api.specs.outcome.Meanings.{Meanings}
-use Rattle.blob_api.specs.outcome.Lift.{lifted}
-use Rattle.blob_api.specs.outcome.Outcome.{Outcome, first_}
+use Rattle.blob_api.specs.store_outcome.Meanings.{Meanings}
+use Rattle.blob_api.specs.store_outcome.Lift.{lifted}
+use Rattle.blob_api.specs.store_outcome.Outcome.{Outcome, first_}
 use Rattle.store_api.specs.declared.tx.Tx.{Tx}
 use Rattle.store_api.specs.Content.{Id}
 use Rattle.store_api.specs.Holdings.{Holdings, Stays}
@@ -16,7 +16,7 @@ use Rattle.data_tree.specs.Trees.{Replaces}
 use Rattle.data_tree.specs.Needs.{KeepsShape}
 use Rattle.data_tree.specs.Roots.{IsRoot, IsNewRoot}
 use Rattle.store_api.specs.Txs.{changes_in, tx_holdings, tx_meanings}
-use Rattle.tree_ranges.specs.Ranges.{IsInside}
+use Rattle.data_ranges.specs.Ranges.{IsInside}
 use Rattle.blob_api.specs.BlobMap.{StandsForMap, Has, IsNew, IsSparing}
 use Rattle.blob_store.specs.declared.store.BlobStore.{BlobStore}
 use Rattle.blob_store.specs.Meanings.{meanings_by, holdings_by, StoresMap}

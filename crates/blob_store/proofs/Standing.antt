@@ -5,7 +5,7 @@ use Rattle.std.specs.FinMap.{get, empty, insert, remove, get-insert, get-remove,
 use Rattle.std.specs.Cmp.Lexicographic.{nat_list_cmp_total}
 use Rattle.std.proofs.lemmas.Option.{none-some}
 use Rattle.block_id.proofs.Options.{none_is}
-use Rattle.blob_api.specs.outcome.Meanings.{Meanings}
+use Rattle.blob_api.specs.store_outcome.Meanings.{Meanings}
 use Rattle.store_api.specs.Content.{Id, id_cmp, Changes, or_else, over}
 use Rattle.store_api.specs.Holdings.{Holdings, Stays, Changed, has_id}
 use Rattle.data_tree.specs.Trees.{Replaces}

@@ -4,8 +4,8 @@ use Rattle.std.proofs.Common.{ap, arith}
 use Rattle.std.specs.FinMap as fin
 use Rattle.std.specs.FinMap.{get}
 use Rattle.std.specs.declared.option.Option.TheVariants.{Some}
-use Rattle.blob_api.specs.outcome.Meanings.{Meanings, Lawful}
-use Rattle.blob_api.specs.outcome.Lift.{lift, lawful}
+use Rattle.blob_api.specs.store_outcome.Meanings.{Meanings, Lawful}
+use Rattle.blob_api.specs.store_outcome.Lift.{lift, lawful}
 use Rattle.block_id.specs.declared.sizes.TheConstants.{MIN_PAYLOAD}
 use Rattle.data_tree.specs.data_nodes.Layout.{room}
 use Rattle.store_api.specs.Content.{Changes}

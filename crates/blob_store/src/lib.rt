@@ -7,8 +7,8 @@ pub use store::BlobStore;
 
 // Handed on to crates above, which needn't list them.
 pub use blob_api;
+pub use data_ranges;
+pub use data_ranges::data_reads;
 pub use data_tree;
 pub use data_tree::data_nodes;
 pub use store_api;
-pub use tree_ranges;
-pub use tree_ranges::tree_calls;

@@ -5,10 +5,10 @@ ghost use Rattle.blob_store.specs.Meanings.{meanings_by, holdings_by, lawful_by,
 
 use blob_api::Blobs;
 use block_id::{BlockId, Fail};
+use data_ranges::data_reads::{drop_tree, new_tree, read_range};
+use data_ranges::write_range;
 use std::alloc::Global;
 use store_api::{Blocks, Tx};
-use tree_ranges::tree_calls::{drop_tree, new_tree, read_range};
-use tree_ranges::write_range;
 
 /// Byte lists in the blocks of a store, as its changes show them: the blocks are exactly the trees of the lists.
 pub struct BlobStore<S> {
@@ -46,7 +46,7 @@ impl<S: Blocks> Blobs for BlobStore<S> {
     }
 
     fn len(&mut self, alloc: Global, id: &BlockId) -> Result<u64, Fail> {
-        tree_ranges::tree_calls::len(alloc, &mut self.tx, id)
+        data_ranges::data_reads::len(alloc, &mut self.tx, id)
     }
 
     fn read(
@@ -64,7 +64,7 @@ impl<S: Blocks> Blobs for BlobStore<S> {
     }
 
     fn resize(&mut self, alloc: Global, id: &BlockId, n: u64) -> Result<(), Fail> {
-        tree_ranges::resize(alloc, &mut self.tx, id, n)
+        data_ranges::resize(alloc, &mut self.tx, id, n)
     }
 
     ghost lawful = { lawful_by (λ b. b.tx) (tx_meanings S.meanings S.holdings) (tx_laws S.meanings S.holdings S.lawful) };

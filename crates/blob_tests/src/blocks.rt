@@ -1,8 +1,8 @@
 // Which blocks of a store the blobs in it change.
 use blob_store::BlobStore;
-use map_blobs::blob_api::Blobs;
-use map_store::MapStore;
-use map_store::store_api::{BlocksMut, Tx};
+use memory_stores::MapStore;
+use memory_stores::blob_api::Blobs;
+use memory_stores::store_api::{BlocksMut, Tx};
 use rand_pcg::Pcg32;
 use std::alloc::Global;
 use std::test::Fail;

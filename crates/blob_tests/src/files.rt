@@ -4,7 +4,7 @@ use dir_blob::fs_blobs::{
     Header, blob_header, body_len, new_blob, read_body, resize_body, set_parent, write_body,
 };
 use fs_model::Kind;
-use map_blobs::MapBlobs;
+use memory_stores::MapBlobs;
 use std::test::Fail;
 
 #[test]

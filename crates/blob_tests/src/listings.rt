@@ -6,7 +6,7 @@ use dir_blob::dir_entries::{Entry, encode_entries};
 use dir_blob::fs_blobs::{Header, new_blob};
 use dir_blob::{change, entries, find_target, insert, remove, whole_body};
 use fs_model::{Attr, FILE_MODE, Kind, MAX_MODE, Moment, Name};
-use map_blobs::MapBlobs;
+use memory_stores::MapBlobs;
 use std::alloc::Global;
 use std::test::Fail;
 

@@ -1,8 +1,8 @@
 // What every store of blobs has to do, over each of them.
 use crate::blocks::empty;
 use crate::suite::{forgets_what_was_removed, reads_what_was_made, resizes, writes};
-use map_blobs::MapBlobs;
-use map_blobs::blob_api::Blobs;
+use memory_stores::MapBlobs;
+use memory_stores::blob_api::Blobs;
 use std::alloc::Global;
 use std::test::Fail;
 

@@ -1,6 +1,6 @@
 // One function a promise, each over any store of blobs. True where the store keeps it.
 use block_id::{BlockId, Fail, Why};
-use map_blobs::blob_api::Blobs;
+use memory_stores::blob_api::Blobs;
 use std::alloc::Global;
 
 /// So many bytes take several blocks of a small store.

@@ -1,14 +1,14 @@
 // Trees over a store in memory, at the smallest block: a leaf has 42 bytes, and a node two children.
 ghost use Rattle.std.specs.Prelude.{◌≤◌, ◌^◌};
-ghost use Rattle.map_store.specs.store_api.Txs.{intact_in};
+ghost use Rattle.memory_stores.specs.store_api.Txs.{intact_in};
 
 use blob_store::data_nodes::Node;
+use blob_store::data_ranges::{resize, write_range};
+use blob_store::data_reads::{drop_tree, len, new_tree, read_range};
 use blob_store::data_tree::{load_at, load_root, put_new, put_node};
-use blob_store::tree_calls::{drop_tree, len, new_tree, read_range};
-use blob_store::tree_ranges::{resize, write_range};
 use block_id::{BlockId, Why};
-use map_store::MapStore;
-use map_store::store_api::{Blocks, BlocksMut, Tx};
+use memory_stores::MapStore;
+use memory_stores::store_api::{Blocks, BlocksMut, Tx};
 use rand_pcg::Pcg32;
 use std::alloc::Global;
 use std::test::Fail;
@@ -128,7 +128,7 @@ fn resize_by<S: Blocks>(
     ensures { intact_in S.meanings S.holdings tx.new }
 {
     if plainly {
-        return blob_store::tree_calls::resize(alloc, tx, root, n);
+        return blob_store::data_reads::resize(alloc, tx, root, n);
     }
     resize(alloc, tx, root, n)
 }

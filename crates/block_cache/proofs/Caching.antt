@@ -4,9 +4,9 @@ use Rattle.std.specs.Prelude.{Result, Ok, IfSome, is_some}
 use Rattle.block_id.specs.declared.fail.Fail.{Fail}
 use Rattle.block_id.specs.declared.id.BlockId.{BlockId}
 use Rattle.outside.specs.View.{bytes_of}
-use Rattle.store_api.specs.outcome.Meanings.{Meanings, Lawful}
-use Rattle.store_api.specs.outcome.Outcome.{Outcome}
-use Rattle.store_api.specs.outcome.Lift.{lifted_with}
+use Rattle.store_api.specs.store_outcome.Meanings.{Meanings, Lawful}
+use Rattle.store_api.specs.store_outcome.Outcome.{Outcome}
+use Rattle.store_api.specs.store_outcome.Lift.{lifted_with}
 use Rattle.std.specs.FinMap.{get}
 use Rattle.std.proofs.lemmas.Option.{none-some}
 use Rattle.store_api.specs.Content.{Id, Changes, or_else}

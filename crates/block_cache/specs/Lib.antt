@@ -1,5 +1,5 @@
 pub mod Payloads
 pub mod Through
 -- Handed on to crates above, which name their words so and needn't list them.
-pub use Rattle.store_api.specs.outcome as outcome
+pub use Rattle.store_api.specs.store_outcome as store_outcome
 pub use Rattle.store_api.specs as store_api

@@ -1,7 +1,7 @@
 -- What a store means through a cache: f is the store below, and p are the cached payloads.
 use Rattle.std.specs.Prelude.{◌≡◌, ℕ, true, List, length, is_some, Option, Some, None, option_map}
-use Rattle.store_api.specs.outcome.Meanings.{Meanings, Lawful}
-use Rattle.store_api.specs.outcome.Lift.{lift_with, lawful_with}
+use Rattle.store_api.specs.store_outcome.Meanings.{Meanings, Lawful}
+use Rattle.store_api.specs.store_outcome.Lift.{lift_with, lawful_with}
 use Rattle.store_api.specs.Content.{Id, Changes}
 use Rattle.store_api.specs.Fronts.{front_of}
 use Rattle.store_api.specs.Loads.{GivesPayload, LoadAnswer, LoadsOver}

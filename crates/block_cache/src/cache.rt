@@ -3,8 +3,8 @@ ghost use Rattle.std.specs.Prelude.{◌≡◌, ◌≤◌, ◌↔◌, [], OnOk, O
 ghost use Rattle.std.specs.declared.result.Result.TheVariants.{Err};
 ghost use Rattle.outside.specs.Causes.{GetHasCause};
 ghost use Rattle.outside.specs.View.{bytes_of};
-ghost use Rattle.store_api.specs.outcome.Meanings.{IsOfBlocks};
-ghost use Rattle.store_api.specs.outcome.Outcome.{Outcome};
+ghost use Rattle.store_api.specs.store_outcome.Meanings.{IsOfBlocks};
+ghost use Rattle.store_api.specs.store_outcome.Outcome.{Outcome};
 ghost use Rattle.lru.specs.LruCache.{lru_cache};
 ghost use Rattle.store_api.specs.Applying.{Applies, AppliesNone, KeepsCounts};
 ghost use Rattle.store_api.specs.Fronts.{front_of};

@@ -2,7 +2,7 @@
 ghost use Rattle.std.specs.Prelude.{◌≡◌, Some, IfSome};
 ghost use Rattle.std.specs.FinMap as fin;
 ghost use Rattle.store_api.specs.Content.{Id};
-ghost use Rattle.block_batch.specs.Entries.{change_view};
+ghost use Rattle.store_api.specs.Entries.{change_view};
 ghost use Rattle.block_cache.specs.Payloads.{Payloads, CachedOrNot, Renewed, RenewedOne, cached_for};
 
 use block_id::BlockId;

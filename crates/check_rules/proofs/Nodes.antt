@@ -4,15 +4,15 @@ use Rattle.std.specs.Prelude.{Some, nat_lt, ◌||◌}
 use Rattle.std.specs.List.{slice_get}
 use Rattle.std.proofs.lemmas.Bool.{or_cases, or_left, or_right, ltb-true}
 use Rattle.std.proofs.Math.Nat.{mul-le-mul_right}
-use Rattle.block_walk.specs.Needs.{NodeNeed, top, under, fills, Serves}
-use Rattle.block_walk.specs.data_nodes.Layout.{NodeText, leaf, inner, IsNode, FitsPayload, fan_out}
-use Rattle.block_walk.specs.data_tree.Trees.{IsTree, Holds, Forest, IsDepth, NoDoubles, span, depth_in}
-use Rattle.block_walk.proofs.data_tree_lemmas.Counting.{count_few}
-use Rattle.block_walk.proofs.data_tree_lemmas.Forests.{forest-length, inner_is}
-use Rattle.block_walk.proofs.data_tree_lemmas.Ids.{same_self}
-use Rattle.block_walk.proofs.data_tree_lemmas.Loads.{holds-depth}
-use Rattle.block_walk.specs.store_api.Content.{Id, Content, same_id}
-use Rattle.block_walk.specs.store_api.Holdings.{has_id}
+use Rattle.check_walk.specs.Needs.{NodeNeed, top, under, fills, Serves}
+use Rattle.check_walk.specs.data_nodes.Layout.{NodeText, leaf, inner, IsNode, FitsPayload, fan_out}
+use Rattle.check_walk.specs.data_tree.Trees.{IsTree, Holds, Forest, IsDepth, NoDoubles, span, depth_in}
+use Rattle.check_walk.proofs.data_tree_lemmas.Counting.{count_few}
+use Rattle.check_walk.proofs.data_tree_lemmas.Forests.{forest-length, inner_is}
+use Rattle.check_walk.proofs.data_tree_lemmas.Ids.{same_self}
+use Rattle.check_walk.proofs.data_tree_lemmas.Loads.{holds-depth}
+use Rattle.check_walk.specs.store_api.Content.{Id, Content, same_id}
+use Rattle.check_walk.specs.store_api.Holdings.{has_id}
 use Rattle.check_rules.proofs.OneTree.{node_is}
 use Rattle.check_rules.proofs.Pieces.{piece_at, one_piece}
 

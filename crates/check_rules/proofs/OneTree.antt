@@ -1,12 +1,12 @@
 -- The tree below an id is one.
 use Rattle.std.proofs.Common.{◌≡◌, ℕ, List, sym, ◌∙◌, subst}
 use Rattle.std.specs.Prelude.{Some}
-use Rattle.block_walk.specs.data_nodes.Layout.{NodeText, IsNode}
-use Rattle.block_walk.proofs.data_nodes_lemmas.Laws.{one_node}
-use Rattle.block_walk.specs.data_tree.Trees.{NodeIn}
-use Rattle.block_walk.specs.data_tree.Stored.{BlobTree}
-use Rattle.block_walk.proofs.data_tree_lemmas.OneTree.{same_tree}
-use Rattle.block_walk.specs.store_api.Content.{Id, Content}
+use Rattle.check_walk.specs.data_nodes.Layout.{NodeText, IsNode}
+use Rattle.check_walk.proofs.data_nodes_lemmas.Laws.{one_node}
+use Rattle.check_walk.specs.data_tree.Trees.{NodeIn}
+use Rattle.check_walk.specs.data_tree.Stored.{BlobTree}
+use Rattle.check_walk.proofs.data_tree_lemmas.OneTree.{same_tree}
+use Rattle.check_walk.specs.store_api.Content.{Id, Content}
 
 -- one block holds one node
 pub node_is : (payload : ℕ) (B : Content) (h : NodeText → List ℕ → List Id → Type 0) (id : Id) (w : List ℕ) (ids : List Id) (n : NodeIn B payload h id w ids) (text : List ℕ) (node : NodeText) → B id ≡ Some text → IsNode text node → n.node ≡ node

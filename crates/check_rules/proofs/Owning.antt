@@ -7,13 +7,13 @@ use Rattle.std.specs.FinMap.Entries.{same_entries}
 use Rattle.std.specs.declared.option.Option.{Option}
 use Rattle.std.specs.declared.option.Option.TheVariants.{None, Some}
 use Rattle.block_id.proofs.Options.{some_of}
-use Rattle.block_walk.specs.Given.{Given, content_of}
-use Rattle.block_walk.specs.data_tree.Stored.{BlobTree}
-use Rattle.path_walks.specs.forest.Shows.{above}
+use Rattle.check_walk.specs.Given.{Given, content_of}
+use Rattle.check_walk.specs.data_tree.Stored.{BlobTree}
+use Rattle.path_walks.specs.Shows.{above}
 use Rattle.path_walks.specs.fs_blobs.Headers.{blob}
 use Rattle.fs_model.specs.Tree.{Path}
-use Rattle.block_walk.specs.store_api.Content.{Id, id_cmp}
-use Rattle.block_walk.specs.store_api.Holdings.{has_id}
+use Rattle.check_walk.specs.store_api.Content.{Id, id_cmp}
+use Rattle.check_walk.specs.store_api.Holdings.{has_id}
 use Rattle.check_rules.specs.Certificates.{Owners, Certifies}
 use Rattle.check_rules.proofs.OneTree.{same_blob}
 use Rattle.check_rules.proofs.Refuting.{needed_there}

@@ -3,10 +3,10 @@ use Rattle.std.proofs.Common.{◌≡◌, ℕ, zero, suc, ◌-◌, ◌*◌, ◌<�
 use Rattle.std.specs.Prelude.{Some, min}
 use Rattle.std.specs.List.{slice_get}
 use Rattle.std.proofs.lemmas.List.{length-take, length-drop}
-use Rattle.block_walk.specs.data_tree.Trees.{Forest, NoDoubles}
-use Rattle.block_walk.proofs.data_tree_lemmas.Ids.{in_left, in_right, alone-parts, apart}
-use Rattle.block_walk.specs.store_api.Content.{Id}
-use Rattle.block_walk.specs.store_api.Holdings.{has_id}
+use Rattle.check_walk.specs.data_tree.Trees.{Forest, NoDoubles}
+use Rattle.check_walk.proofs.data_tree_lemmas.Ids.{in_left, in_right, alone-parts, apart}
+use Rattle.check_walk.specs.store_api.Content.{Id}
+use Rattle.check_walk.specs.store_api.Holdings.{has_id}
 
 -- the tree with a number, and how many bytes it holds
 pub record Piece (T : Id → List ℕ → List Id → Type 0) (size : ℕ) (children : List Id) (w : List ℕ) (ids : List Id) (i : ℕ) (child : Id) : Type 0 where

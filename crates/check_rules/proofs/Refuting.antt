@@ -6,18 +6,18 @@ use Rattle.std.specs.declared.option.Option.TheVariants.{None, Some}
 use Rattle.std.proofs.lemmas.Bool.{or_parts}
 use Rattle.path_walks.specs.blob_api.BlobMap.{BlobMap}
 use Rattle.block_id.proofs.Options.{some_of}
-use Rattle.block_walk.specs.declared.flaw.Flaw.{Flaw}
-use Rattle.block_walk.specs.declared.flaw.Flaw.TheVariants.{BadNode, BadBlob, Parent, Twice, NotLive, Unowned}
-use Rattle.block_walk.specs.Given.{Given, AgreesWith, content_of}
-use Rattle.block_walk.specs.Needs.{NodeNeed, top, Leads}
-use Rattle.block_walk.proofs.Leading.{leads_to}
-use Rattle.block_walk.specs.data_tree.Stored.{StoresBlobs}
-use Rattle.path_walks.specs.forest.Shows.{above, ShowsBy, ShowsTree}
+use Rattle.check_walk.specs.declared.flaw.Flaw.{Flaw}
+use Rattle.check_walk.specs.declared.flaw.Flaw.TheVariants.{BadNode, BadBlob, Parent, Twice, NotLive, Unowned}
+use Rattle.check_walk.specs.Given.{Given, AgreesWith, content_of}
+use Rattle.check_walk.specs.Needs.{NodeNeed, top, Leads}
+use Rattle.check_walk.proofs.Leading.{leads_to}
+use Rattle.check_walk.specs.data_tree.Stored.{StoresBlobs}
+use Rattle.path_walks.specs.Shows.{above, ShowsBy, ShowsTree}
 use Rattle.path_walks.specs.fs_blobs.Headers.{blob}
 use Rattle.fs_model.specs.Tree.{Path, Tree}
-use Rattle.block_walk.specs.store_api.Content.{Id, Content, id_cmp, same_id}
-use Rattle.block_walk.specs.store_api.Holdings.{has_id}
-use Rattle.block_walk.proofs.store_api_lemmas.Rising.{same_id_is}
+use Rattle.check_walk.specs.store_api.Content.{Id, Content, id_cmp, same_id}
+use Rattle.check_walk.specs.store_api.Holdings.{has_id}
+use Rattle.check_walk.proofs.store_api_lemmas.Rising.{same_id_is}
 use Rattle.check_rules.specs.Flaws.{HasBadNode, HasBadBlob, HasParent, HasTwice, HasNotLive, HasUnowned, HasFlaw, Refutes}
 use Rattle.check_rules.specs.Reached.{Place, NeedsNode}
 use Rattle.check_rules.proofs.Nodes.{TreeAt, serves_at}

@@ -10,17 +10,17 @@ use Rattle.std.proofs.lemmas.Option.{same_Some}
 use Rattle.std.proofs.Math.Seq.{take-append_seam}
 use Rattle.path_walks.specs.blob_api.BlobMap.{BlobMap}
 use Rattle.block_id.proofs.Options.{some_of}
-use Rattle.block_walk.proofs.Leading.{leads_to}
-use Rattle.block_walk.specs.Needs.{NodeNeed, top, Leads}
-use Rattle.block_walk.specs.data_tree.Trees.{IsTree, NoDoubles}
-use Rattle.block_walk.specs.data_tree.Stored.{BlobTree, StoresBlobs}
-use Rattle.block_walk.proofs.data_tree_lemmas.Changes.{tree_frame}
-use Rattle.block_walk.proofs.data_tree_lemmas.Making.{tree_there}
+use Rattle.check_walk.proofs.Leading.{leads_to}
+use Rattle.check_walk.specs.Needs.{NodeNeed, top, Leads}
+use Rattle.check_walk.specs.data_tree.Trees.{IsTree, NoDoubles}
+use Rattle.check_walk.specs.data_tree.Stored.{BlobTree, StoresBlobs}
+use Rattle.check_walk.proofs.data_tree_lemmas.Changes.{tree_frame}
+use Rattle.check_walk.proofs.data_tree_lemmas.Making.{tree_there}
 use Rattle.path_walks.specs.dir_entries.Layout.{EntryTarget, IsBody}
 use Rattle.path_walks.proofs.dir_entries_lemmas.Bodies.{one_listing}
-use Rattle.path_walks.specs.forest.Nodes.{Lists, IsBodyOf}
-use Rattle.path_walks.specs.forest.Shows.{above, target_for, entries_at, ShowsBy}
-use Rattle.path_walks.proofs.forest_lemmas.Shown.{folder_row}
+use Rattle.path_walks.specs.Nodes.{Lists, IsBodyOf}
+use Rattle.path_walks.specs.Shows.{above, target_for, entries_at, ShowsBy}
+use Rattle.path_walks.proofs.Shown.{folder_row}
 use Rattle.path_walks.specs.fs_blobs.Headers.{blob, header_text}
 use Rattle.path_walks.proofs.fs_blobs_lemmas.Parts.{length-blob}
 use Rattle.fs_model.specs.declared.attr.Kind.{Kind}
@@ -29,8 +29,8 @@ use Rattle.fs_model.specs.Kinds.{byte_of}
 use Rattle.fs_model.specs.Tree.{Path, Row, Tree, root_row, name_cmp, directory_size, FitsKind}
 use Rattle.path_walks.proofs.Nodes.{lists_at, above_wide, content_fits}
 use Rattle.path_walks.proofs.Sizes.{sizes_shown, body_size}
-use Rattle.block_walk.specs.store_api.Content.{Id, Content}
-use Rattle.block_walk.specs.store_api.Holdings.{has_id}
+use Rattle.check_walk.specs.store_api.Content.{Id, Content}
+use Rattle.check_walk.specs.store_api.Holdings.{has_id}
 use Rattle.check_rules.specs.Flaws.{FitsBody}
 use Rattle.check_rules.specs.Reached.{IsEntryIn, IsReached, Place, NeedsNode}
 use Rattle.check_rules.proofs.OneTree.{same_blob}

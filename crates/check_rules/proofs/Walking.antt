@@ -3,21 +3,21 @@ use Rattle.std.proofs.Common.{◌≡◌, ℕ, Bool, true, false, cond, List, [],
 use Rattle.std.specs.FinMap.{find}
 use Rattle.std.specs.declared.option.Option.TheVariants.{Some}
 use Rattle.std.proofs.lemmas.Bool.{or_left, or_right}
-use Rattle.block_walk.proofs.Leading.{leads_to}
-use Rattle.block_walk.specs.declared.flaw.Flaw.{Flaw}
-use Rattle.block_walk.specs.declared.flaw.Flaw.TheVariants.{BadNode, BadBlob, Parent, Twice, NotLive, Unowned}
-use Rattle.block_walk.specs.Given.{Given, AgreesWith, content_of}
-use Rattle.block_walk.specs.Halts.{FlawAt}
-use Rattle.block_walk.specs.Marks.{MarkList}
-use Rattle.block_walk.specs.Needs.{NodeNeed, top, Leads}
-use Rattle.block_walk.specs.data_tree.Stored.{BlobTree}
-use Rattle.block_walk.specs.data_tree.Trees.{NoDoubles}
-use Rattle.block_walk.proofs.data_tree_lemmas.Ids.{same_self}
+use Rattle.check_walk.proofs.Leading.{leads_to}
+use Rattle.check_walk.specs.declared.flaw.Flaw.{Flaw}
+use Rattle.check_walk.specs.declared.flaw.Flaw.TheVariants.{BadNode, BadBlob, Parent, Twice, NotLive, Unowned}
+use Rattle.check_walk.specs.Given.{Given, AgreesWith, content_of}
+use Rattle.check_walk.specs.Halts.{FlawAt}
+use Rattle.check_walk.specs.Marks.{MarkList}
+use Rattle.check_walk.specs.Needs.{NodeNeed, top, Leads}
+use Rattle.check_walk.specs.data_tree.Stored.{BlobTree}
+use Rattle.check_walk.specs.data_tree.Trees.{NoDoubles}
+use Rattle.check_walk.proofs.data_tree_lemmas.Ids.{same_self}
 use Rattle.fs_model.specs.declared.attr.Kind.{Kind}
 use Rattle.fs_model.specs.Tree.{Path}
-use Rattle.block_walk.specs.store_api.Content.{Id, Content, id_cmp, same_id}
-use Rattle.block_walk.specs.store_api.Holdings.{has_id}
-use Rattle.block_walk.proofs.store_api_lemmas.Rising.{same_id_is}
+use Rattle.check_walk.specs.store_api.Content.{Id, Content, id_cmp, same_id}
+use Rattle.check_walk.specs.store_api.Holdings.{has_id}
+use Rattle.check_walk.proofs.store_api_lemmas.Rising.{same_id_is}
 use Rattle.check_rules.specs.Flaws.{HasFlaw}
 use Rattle.check_rules.specs.Marked.{MarksOthers}
 use Rattle.check_rules.specs.Reached.{IsReached, Place, NeedsNode}

@@ -3,12 +3,12 @@ use Rattle.std.proofs.Common.{◌≡◌, ℕ, suc, true, false, List, [], ◌∷
 use Rattle.std.specs.Prelude.{Some, is_some, nat_lt, ◌||◌}
 use Rattle.std.specs.List.{slice_get}
 use Rattle.block_id.proofs.Options.{some_of}
-use Rattle.block_walk.specs.Needs.{NodeNeed, under, fills, Leads}
-use Rattle.block_walk.specs.data_nodes.Layout.{inner, IsNode}
-use Rattle.block_walk.proofs.data_nodes_lemmas.Laws.{one_node}
-use Rattle.block_walk.specs.data_tree.Trees.{NoDoubles}
-use Rattle.block_walk.specs.store_api.Content.{Id, Content}
-use Rattle.block_walk.specs.store_api.Holdings.{has_id}
+use Rattle.check_walk.specs.Needs.{NodeNeed, under, fills, Leads}
+use Rattle.check_walk.specs.data_nodes.Layout.{inner, IsNode}
+use Rattle.check_walk.proofs.data_nodes_lemmas.Laws.{one_node}
+use Rattle.check_walk.specs.data_tree.Trees.{NoDoubles}
+use Rattle.check_walk.specs.store_api.Content.{Id, Content}
+use Rattle.check_walk.specs.store_api.Holdings.{has_id}
 use Rattle.check_rules.proofs.Nodes.{TreeAt, Below, child_at, child_alone, one_child, in_own, root_has, root_apart}
 
 same_depth : {d e : ℕ} {xs ys : List Id} → inner (suc d) xs ≡ inner (suc e) ys → d ≡ e

@@ -2,13 +2,13 @@
 use Rattle.std.specs.Prelude.{◌≡◌, ℕ, true, T, List, map, Some, is_some}
 use Rattle.std.specs.FinMap.{find, get, is_sorted}
 use Rattle.path_walks.specs.blob_api.BlobMap.{BlobMap}
-use Rattle.block_walk.specs.Given.{Given, content_of}
-use Rattle.block_walk.specs.data_tree.Stored.{BlobTree, StoresBlobs}
-use Rattle.block_walk.specs.data_tree.Trees.{NoDoubles}
-use Rattle.path_walks.specs.forest.Shows.{ShowsBy}
+use Rattle.check_walk.specs.Given.{Given, content_of}
+use Rattle.check_walk.specs.data_tree.Stored.{BlobTree, StoresBlobs}
+use Rattle.check_walk.specs.data_tree.Trees.{NoDoubles}
+use Rattle.path_walks.specs.Shows.{ShowsBy}
 use Rattle.fs_model.specs.Tree.{Path, Tree}
-use Rattle.block_walk.specs.store_api.Content.{Id, Content, id_cmp}
-use Rattle.block_walk.specs.store_api.Holdings.{has_id}
+use Rattle.check_walk.specs.store_api.Content.{Id, Content, id_cmp}
+use Rattle.check_walk.specs.store_api.Holdings.{has_id}
 
 -- ids, each with a path
 abbrev pub Owners : Type 0

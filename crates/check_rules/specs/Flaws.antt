@@ -2,21 +2,21 @@
 use Rattle.std.specs.Prelude.{◌≡◌, ◌≤◌, ℕ, true, false, List, length, IsTrue, Some, is_some}
 use Rattle.std.specs.FinMap.{get}
 use Rattle.path_walks.specs.blob_api.BlobMap.{BlobMap}
-use Rattle.block_walk.specs.declared.flaw.Flaw.{Flaw}
-use Rattle.block_walk.specs.declared.flaw.Flaw.TheVariants.{BadNode, BadBlob, Parent, Twice, NotLive, Unowned}
-use Rattle.block_walk.specs.Given.{Given, AgreesWith}
-use Rattle.block_walk.specs.Needs.{NodeNeed, Serves}
-use Rattle.block_walk.specs.data_tree.Stored.{BlobTree, StoresBlobs}
+use Rattle.check_walk.specs.declared.flaw.Flaw.{Flaw}
+use Rattle.check_walk.specs.declared.flaw.Flaw.TheVariants.{BadNode, BadBlob, Parent, Twice, NotLive, Unowned}
+use Rattle.check_walk.specs.Given.{Given, AgreesWith}
+use Rattle.check_walk.specs.Needs.{NodeNeed, Serves}
+use Rattle.check_walk.specs.data_tree.Stored.{BlobTree, StoresBlobs}
 use Rattle.path_walks.specs.dir_entries.Layout.{Listing, IsBody}
-use Rattle.path_walks.specs.forest.Shows.{ShowsTree}
+use Rattle.path_walks.specs.Shows.{ShowsTree}
 use Rattle.path_walks.specs.fs_blobs.Headers.{blob}
 use Rattle.fs_model.specs.declared.attr.Kind.{Kind}
 use Rattle.fs_model.specs.declared.attr.Kind.TheVariants.{Directory, File, Link}
 use Rattle.fs_model.specs.declared.limits.TheConstants.{MAX_ENTRIES, MAX_FILE}
 use Rattle.fs_model.specs.Fitting.{is_target}
 use Rattle.fs_model.specs.Tree.{Path, Tree}
-use Rattle.block_walk.specs.store_api.Content.{Id, Content}
-use Rattle.block_walk.specs.store_api.Holdings.{has_id}
+use Rattle.check_walk.specs.store_api.Content.{Id, Content}
+use Rattle.check_walk.specs.store_api.Holdings.{has_id}
 use Rattle.check_rules.specs.Reached.{IsReached, Place, NeedsNode}
 
 -- entries, a file's bytes or a link's target, within their limits

@@ -1,11 +1,11 @@
 -- What marks say of the paths whose blobs were walked before.
 use Rattle.std.specs.Prelude.{◌≡◌, ℕ, false, List, None, is_some}
-use Rattle.block_walk.specs.Halts.{IsOwned}
-use Rattle.block_walk.specs.Marks.{MarkList, owner_of}
-use Rattle.block_walk.specs.Needs.{NodeNeed}
+use Rattle.check_walk.specs.Halts.{IsOwned}
+use Rattle.check_walk.specs.Marks.{MarkList, owner_of}
+use Rattle.check_walk.specs.Needs.{NodeNeed}
 use Rattle.fs_model.specs.Tree.{Path}
-use Rattle.block_walk.specs.store_api.Content.{Id, Content}
-use Rattle.block_walk.specs.store_api.Holdings.{has_id}
+use Rattle.check_walk.specs.store_api.Content.{Id, Content}
+use Rattle.check_walk.specs.store_api.Holdings.{has_id}
 use Rattle.check_rules.specs.Reached.{Place, NeedsNode}
 
 -- a place of another path needs this node

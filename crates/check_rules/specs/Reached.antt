@@ -2,14 +2,14 @@
 use Rattle.std.specs.Prelude.{◌≡◌, ℕ, List, [], ◌∷◌, Some}
 use Rattle.std.specs.FinMap.{find}
 use Rattle.block_id.specs.Fresh.{zero_id}
-use Rattle.block_walk.specs.Needs.{NodeNeed, top, Leads}
-use Rattle.block_walk.specs.data_tree.Stored.{BlobTree}
+use Rattle.check_walk.specs.Needs.{NodeNeed, top, Leads}
+use Rattle.check_walk.specs.data_tree.Stored.{BlobTree}
 use Rattle.path_walks.specs.dir_entries.Layout.{EntryTarget, Listing, IsBody}
 use Rattle.path_walks.specs.fs_blobs.Headers.{blob}
 use Rattle.fs_model.specs.declared.attr.Kind.{Kind}
 use Rattle.fs_model.specs.declared.attr.Kind.TheVariants.{Directory}
 use Rattle.fs_model.specs.Tree.{Path, name_cmp}
-use Rattle.block_walk.specs.store_api.Content.{Id, Content}
+use Rattle.check_walk.specs.store_api.Content.{Id, Content}
 
 -- a directory, to whose blob something refers so, has an entry of this name, which has this kind and refers to this blob
 pub record IsEntryIn (payload : ℕ) (G : Content) (reached : Kind → Id → Id → Type 0) (name : List ℕ) (kind : Kind) (id parent : Id) : Type 0 where

@@ -6,6 +6,6 @@ mod law;
 pub use law::{flaw_refutes, given_agrees, owners_own, unowned_is_flaw, walk_flaw_is_flaw};
 
 // Handed on to crates above, which needn't list them.
-pub use block_walk;
-pub use block_walk::store_api;
+pub use check_walk;
+pub use check_walk::store_api;
 pub use path_walks::{dir_entries, fs_blobs};

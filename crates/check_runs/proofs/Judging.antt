@@ -4,30 +4,30 @@ use Rattle.std.specs.Prelude.{Result, Ok, Err, IfOk, IfErr}
 use Rattle.std.specs.declared.option.Option.{Option}
 use Rattle.block_id.specs.declared.fail.Fail.{Fail}
 use Rattle.block_id.specs.declared.fail.Fail.TheVariants.{Memory, Fault, Violation}
-use Rattle.given_reads.specs.block_walk.declared.flaw.Flaw.{Flaw}
-use Rattle.block_paths.specs.check_rules.Certificates.{Owners}
-use Rattle.block_paths.specs.cryfs_check.Checks.{ShowsSome, IsYes, OnYes, OnNo, AsksOnce, IsCertified, IsRefuted}
-use Rattle.block_paths.specs.cryfs_check.declared.checking.Checked.{Checked}
-use Rattle.block_paths.specs.cryfs_check.declared.checking.Checked.TheVariants.{Yes, No}
+use Rattle.check_walk.specs.declared.flaw.Flaw.{Flaw}
+use Rattle.check_refused.specs.check_rules.Certificates.{Owners}
+use Rattle.check_refused.specs.cryfs_check.Checks.{ShowsSome, IsYes, OnYes, OnNo, AsksOnce, IsCertified, IsRefuted}
+use Rattle.check_refused.specs.cryfs_check.declared.checking.Checked.{Checked}
+use Rattle.check_refused.specs.cryfs_check.declared.checking.Checked.TheVariants.{Yes, No}
 use Rattle.fs_model.specs.Tree.{Tree}
-use Rattle.given_reads.specs.held_blocks.Loads.{loads_by}
-use Rattle.given_reads.specs.local_state.Known.{live_ids}
-use Rattle.cryfs_setup.specs.mount.Answering.{store_of, lies_of}
-use Rattle.cryfs_setup.specs.mount.Mounts.{IsReady}
-use Rattle.cryfs_setup.specs.mount.Tower.{TowerStands}
-use Rattle.cryfs_setup.specs.mount_blocks.Examined.{held_of, trace_of, examined_meanings, examined_holdings}
-use Rattle.cryfs_setup.specs.mount_blocks.ExaminedLaws.{beside_none, examined_lawful}
-use Rattle.cryfs_setup.specs.mount_blocks.declared.examined.Examined.{Examined}
-use Rattle.cryfs_setup.proofs.mount_core_lemmas.Moving.{stays_same}
-use Rattle.cryfs_setup.specs.mount_tower.Tower.{tower_holdings}
-use Rattle.cryfs_setup.specs.mount_tower.TowerLaws.{tower_lawful}
-use Rattle.given_reads.specs.outcome.Meanings.{Lawful, Meanings, IsOfBlocks}
-use Rattle.given_reads.specs.outcome.Outcome.{Outcome, alarm}
+use Rattle.block_versions.specs.Loads.{loads_by}
+use Rattle.block_versions.specs.local_state.Known.{live_ids}
+use Rattle.setup_runs.specs.mount.Answering.{store_of, lies_of}
+use Rattle.setup_runs.specs.mount.Mounts.{IsReady}
+use Rattle.setup_runs.specs.mount.Tower.{TowerStands}
+use Rattle.check_blocks.specs.Examined.{held_of, trace_of, examined_meanings, examined_holdings}
+use Rattle.check_blocks.specs.ExaminedLaws.{beside_none, examined_lawful}
+use Rattle.check_blocks.specs.declared.examined.Examined.{Examined}
+use Rattle.setup_runs.proofs.mount_core_lemmas.Moving.{stays_same}
+use Rattle.setup_runs.specs.mount_stores.Tower.{tower_holdings}
+use Rattle.setup_runs.specs.mount_stores.TowerLaws.{tower_lawful}
+use Rattle.check_walk.specs.store_outcome.Meanings.{Lawful, Meanings, IsOfBlocks}
+use Rattle.check_walk.specs.store_outcome.Outcome.{Outcome, alarm}
 use Rattle.outside.specs.Trace.{Call}
 use Rattle.outside.specs.declared.keeper.Keeper.{Ghosts as KeeperGhosts}
-use Rattle.given_reads.specs.store_api.Content.{Id}
-use Rattle.given_reads.specs.store_api.Holdings.{Stays}
-use Rattle.cryfs_setup.specs.mount_core.Showing.{ShowsFiles}
+use Rattle.block_versions.specs.store_api.Content.{Id}
+use Rattle.block_versions.specs.store_api.Holdings.{Stays}
+use Rattle.setup_runs.specs.mount_core.Showing.{ShowsFiles}
 use Rattle.check_runs.specs.Judging.{is_bad, read_by, IsJudged, Judges}
 use Rattle.check_runs.proofs.Reading.{asked_once, refuted, proven}
 

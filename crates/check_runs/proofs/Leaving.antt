@@ -4,10 +4,10 @@ use Rattle.std.specs.Prelude.{◌≢◌, Result, Ok, Err, IfErr}
 use Rattle.std.specs.declared.option.Option.{Option}
 use Rattle.block_id.specs.declared.fail.Fail.{Fail}
 use Rattle.block_id.specs.declared.fail.Fail.TheVariants as fail
-use Rattle.block_paths.specs.cryfs_check.declared.checking.Checked.{Checked}
-use Rattle.block_paths.specs.cryfs_check.declared.checking.Checked.TheVariants.{Yes, No}
+use Rattle.check_refused.specs.cryfs_check.declared.checking.Checked.{Checked}
+use Rattle.check_refused.specs.cryfs_check.declared.checking.Checked.TheVariants.{Yes, No}
 use Rattle.check_texts.specs.line_io.Streams.{Stream, HasFailed}
-use Rattle.given_reads.specs.outcome.Meanings.{HasCause, IsQuiet}
+use Rattle.check_walk.specs.store_outcome.Meanings.{HasCause, IsQuiet}
 use Rattle.outside.specs.Causes.{RoseBy}
 use Rattle.outside.specs.Trace.{Call}
 use Rattle.outside.specs.declared.keeper.Keeper.{Ghosts as KeeperGhosts}
@@ -16,10 +16,10 @@ use Rattle.run_status.specs.declared.status.Status.{Status}
 use Rattle.run_status.specs.declared.status.Status.TheVariants.{Done, Violation, DirectoryFault, OutputFault, Memory}
 use Rattle.run_status.specs.Statuses.{first_of}
 use Rattle.check_texts.specs.session_lines.Driven.{IsUnfailed}
-use Rattle.cryfs_setup.specs.session_runs.Openings.{HasCauses, StayOpen}
-use Rattle.cryfs_setup.specs.session_runs.Runs.{Outside, outside_of, IsExaminedRun, PasswordOpens}
-use Rattle.cryfs_setup.specs.mount_core.Showing.{ShowsFiles}
-use Rattle.block_paths.specs.check_rules.Certificates.{Owners}
+use Rattle.setup_runs.specs.session_laws.Openings.{HasCauses, StayOpen}
+use Rattle.setup_runs.specs.session_laws.Runs.{Outside, outside_of, IsExaminedRun, PasswordOpens}
+use Rattle.setup_runs.specs.mount_core.Showing.{ShowsFiles}
+use Rattle.check_refused.specs.check_rules.Certificates.{Owners}
 use Rattle.check_texts.specs.Telling.{AreOwnersTold, IsTold, ListsAfter}
 use Rattle.check_runs.specs.Judging.{is_bad}
 use Rattle.check_runs.specs.Running.{IsCheckTold}

@@ -7,31 +7,31 @@ use Rattle.std.specs.declared.option.Option.{Option}
 use Rattle.block_id.specs.declared.fail.Fail.{Fail}
 use Rattle.block_id.specs.declared.fail.Fail.TheVariants.{Memory, Fault, Violation}
 use Rattle.block_id.specs.declared.fail.Why.{Why}
-use Rattle.block_paths.specs.block_survey.Surveys.{IsSurvey, IsCutShort, Surveys, refusal_of}
-use Rattle.block_paths.specs.block_survey.declared.survey.Refused.{Refused}
-use Rattle.block_paths.specs.cryfs_check.declared.checking.Checked.{Checked}
-use Rattle.block_paths.specs.cryfs_check.declared.checking.Checked.TheVariants.{Yes, No}
-use Rattle.given_reads.proofs.data_tree_lemmas.Forests.{stays-same, stays-then}
-use Rattle.given_reads.specs.held_blocks.Loads.{loads_by}
-use Rattle.given_reads.specs.local_state.Known.{live_ids}
-use Rattle.cryfs_setup.specs.mount.Answering.{store_of, vault_faults}
-use Rattle.cryfs_setup.specs.mount.Mounts.{IsReady}
-use Rattle.cryfs_setup.specs.mount_blocks.Examined.{OnlyExamined, held_of, trace_of, examined_meanings, examined_holdings}
-use Rattle.cryfs_setup.specs.mount_blocks.ExaminedLaws.{examined_lawful}
-use Rattle.cryfs_setup.specs.mount_blocks.declared.examined.Examined.{Examined}
-use Rattle.cryfs_setup.specs.mount_tower.Tower.{tower_holdings}
-use Rattle.given_reads.specs.outcome.Meanings.{HasCause, IsCalm, IsQuiet}
+use Rattle.check_refused.specs.Surveys.{IsSurvey, IsCutShort, Surveys, refusal_of}
+use Rattle.check_refused.specs.declared.survey.Refused.{Refused}
+use Rattle.check_refused.specs.cryfs_check.declared.checking.Checked.{Checked}
+use Rattle.check_refused.specs.cryfs_check.declared.checking.Checked.TheVariants.{Yes, No}
+use Rattle.check_walk.proofs.data_tree_lemmas.Forests.{stays-same, stays-then}
+use Rattle.block_versions.specs.Loads.{loads_by}
+use Rattle.block_versions.specs.local_state.Known.{live_ids}
+use Rattle.setup_runs.specs.mount.Answering.{store_of, vault_faults}
+use Rattle.setup_runs.specs.mount.Mounts.{IsReady}
+use Rattle.check_blocks.specs.Examined.{OnlyExamined, held_of, trace_of, examined_meanings, examined_holdings}
+use Rattle.check_blocks.specs.ExaminedLaws.{examined_lawful}
+use Rattle.check_blocks.specs.declared.examined.Examined.{Examined}
+use Rattle.setup_runs.specs.mount_stores.Tower.{tower_holdings}
+use Rattle.check_walk.specs.store_outcome.Meanings.{HasCause, IsCalm, IsQuiet}
 use Rattle.outside.specs.Trace.{Call}
 use Rattle.outside.specs.declared.keeper.Keeper.{Ghosts as KeeperGhosts}
-use Rattle.cryfs_setup.proofs.session_runs_lemmas.Still.{went_got}
-use Rattle.cryfs_setup.specs.session_runs.Resting.{AreGets, OnlyGot}
-use Rattle.given_reads.specs.store_api.Content.{Id}
-use Rattle.given_reads.specs.store_api.Loads.{LoadAnswer}
-use Rattle.given_reads.specs.store_api.Holdings.{Stays}
+use Rattle.setup_runs.proofs.session_laws_lemmas.Still.{went_got}
+use Rattle.setup_runs.specs.session_laws.Resting.{AreGets, OnlyGot}
+use Rattle.block_versions.specs.store_api.Content.{Id}
+use Rattle.block_versions.specs.store_api.Loads.{LoadAnswer}
+use Rattle.block_versions.specs.store_api.Holdings.{Stays}
 use Rattle.check_runs.specs.Judging.{is_bad, read_by}
 use Rattle.check_runs.specs.Surveying.{IsSurveyed, Places, SurveysBad, SurveysIf}
 use Rattle.check_runs.proofs.Reading.{chained}
-use Rattle.given_reads.specs.outcome.Outcome.{still}
+use Rattle.check_walk.specs.store_outcome.Outcome.{still}
 
 -- after a flaw or a violation no fault was met
 pub bad_quiet : (verdict : Result Checked Fail) (before now : ℕ) → is_bad verdict ≡ true → IsQuiet verdict before now → now ≡ before

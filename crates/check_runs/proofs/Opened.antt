@@ -2,34 +2,34 @@
 use Rattle.std.proofs.Common.{◌≡◌, ◌≤◌, ◌-◌, ℕ, List, [], ◌∷◌, sym, ap, subst, arith}
 use Rattle.std.specs.Prelude.{is_some, true}
 use Rattle.std.specs.declared.option.Option.{Option}
-use Rattle.cryfs_setup.specs.config_file.Settings.{Settings, settings_of}
+use Rattle.setup_runs.specs.config_file.Settings.{Settings, settings_of}
 use Rattle.fs_model.specs.Tree.{Tree}
-use Rattle.given_reads.specs.held_blocks.Held.{Held}
-use Rattle.given_reads.specs.held_blocks.Standing.{records}
-use Rattle.cryfs_setup.proofs.mount_lemmas.Reading.{represents_told}
-use Rattle.cryfs_setup.proofs.mount_lemmas.Standing.{represents}
-use Rattle.cryfs_setup.specs.mount.Answering.{store_of, calls_of, kept_of, lies_of}
-use Rattle.cryfs_setup.specs.mount.declared.mount.Mount.{Mount}
-use Rattle.cryfs_setup.specs.mount.Representing.{Represents}
-use Rattle.cryfs_setup.specs.mount.Tower.{TowerStands, TowerConfigures}
-use Rattle.cryfs_setup.proofs.mount_answering_lemmas.Lines.{configures_loaded}
-use Rattle.cryfs_setup.proofs.mount_blocks_lemmas.Enduring.{tower_applied, tower_enduring}
-use Rattle.cryfs_setup.specs.mount_blocks.Examined.{OnlyExamined}
-use Rattle.cryfs_setup.proofs.mount_tower_lemmas.Reading.{same_kept}
-use Rattle.cryfs_setup.specs.mount_tower.Identities.{identity_for, KeepsRecord}
-use Rattle.cryfs_setup.specs.mount_tower.Tower.{held_in, tower_meanings, tower_holdings, tower_durables}
+use Rattle.block_versions.specs.Held.{Held}
+use Rattle.block_versions.specs.Standing.{records}
+use Rattle.setup_runs.proofs.mount_lemmas.Reading.{represents_told}
+use Rattle.setup_runs.proofs.mount_lemmas.Standing.{represents}
+use Rattle.setup_runs.specs.mount.Answering.{store_of, calls_of, kept_of, lies_of}
+use Rattle.setup_runs.specs.mount.declared.mount.Mount.{Mount}
+use Rattle.setup_runs.specs.mount.Representing.{Represents}
+use Rattle.setup_runs.specs.mount.Tower.{TowerStands, TowerConfigures}
+use Rattle.setup_runs.proofs.mount_answering_lemmas.Lines.{configures_loaded}
+use Rattle.check_blocks.proofs.Enduring.{tower_applied, tower_enduring}
+use Rattle.check_blocks.specs.Examined.{OnlyExamined}
+use Rattle.setup_runs.proofs.mount_stores_lemmas.Reading.{same_kept}
+use Rattle.setup_runs.specs.mount_stores.Identities.{identity_for, KeepsRecord}
+use Rattle.setup_runs.specs.mount_stores.Tower.{held_in, tower_meanings, tower_holdings, tower_durables}
 use Rattle.outside.specs.Going.{GoesOn}
 use Rattle.outside.specs.Honest.{is_lie, count_told}
 use Rattle.outside.specs.Trace.{Call}
 use Rattle.outside.specs.declared.keeper.Keeper.{Ghosts as KeeperGhosts}
-use Rattle.cryfs_setup.proofs.session_runs_lemmas.Whole.{each_before}
-use Rattle.cryfs_setup.specs.session_runs.Runs.{Outside, outside_of, OutsideStandsFor, lies, OpensTo}
-use Rattle.cryfs_setup.specs.session_runs.Turns.{Begun}
-use Rattle.cryfs_setup.specs.session_saver.Saving.{KeptConfigures}
-use Rattle.cryfs_setup.specs.session_saver.declared.saver.Saver.{Saver}
-use Rattle.given_reads.specs.store_api.Durables.{Identity}
-use Rattle.given_reads.specs.store_api.Holdings.{Stays}
-use Rattle.cryfs_setup.specs.mount_core.Showing.{ShowsFiles}
+use Rattle.setup_runs.proofs.session_laws_lemmas.Whole.{each_before}
+use Rattle.setup_runs.specs.session_laws.Runs.{Outside, outside_of, OutsideStandsFor, lies, OpensTo}
+use Rattle.setup_runs.specs.session_laws.Turns.{Begun}
+use Rattle.setup_runs.specs.record_saver.Saving.{KeptConfigures}
+use Rattle.setup_runs.specs.record_saver.declared.saver.Saver.{Saver}
+use Rattle.block_versions.specs.store_api.Durables.{Identity}
+use Rattle.block_versions.specs.store_api.Holdings.{Stays}
+use Rattle.setup_runs.specs.mount_core.Showing.{ShowsFiles}
 use Rattle.check_runs.specs.Judging.{held_for}
 
 module _ {V : Type 0} {K : Type 0} (trace : V → Option (List Call)) (faults : V → ℕ) (G : KeeperGhosts K) (password : List ℕ) (vault : V) (keeper : K) (first : Mount V K) (b : Begun ShowsFiles trace faults G password vault keeper first) where

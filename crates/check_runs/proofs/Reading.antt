@@ -1,17 +1,17 @@
 -- Loads over a store of sealed files, by the calls on its directory alone.
 use Rattle.std.proofs.Common.{◌≡◌, ◌∙◌, ◌-◌, ℕ, List, [], ◌∷◌, refl, ap, subst}
 use Rattle.std.specs.declared.option.Option.{Option}
-use Rattle.given_reads.specs.block_walk.Given.{Asked, AskedBy}
-use Rattle.given_reads.specs.block_walk.declared.flaw.Flaw.{Flaw}
-use Rattle.block_paths.specs.check_rules.Certificates.{Owners}
-use Rattle.block_paths.specs.cryfs_check.Checks.{AsksOnce, IsCertified, IsRefuted}
-use Rattle.given_reads.proofs.Chains.{reads_of}
-use Rattle.given_reads.specs.held_blocks.Held.{Held, live_version}
-use Rattle.given_reads.specs.held_blocks.Loads.{LoadAnswers, loads_by}
-use Rattle.given_reads.specs.local_state.Known.{live_ids}
+use Rattle.check_walk.specs.Given.{Asked, AskedBy}
+use Rattle.check_walk.specs.declared.flaw.Flaw.{Flaw}
+use Rattle.check_refused.specs.check_rules.Certificates.{Owners}
+use Rattle.check_refused.specs.cryfs_check.Checks.{AsksOnce, IsCertified, IsRefuted}
+use Rattle.check_runs.proofs.Chains.{reads_of}
+use Rattle.block_versions.specs.Held.{Held, live_version}
+use Rattle.block_versions.specs.Loads.{LoadAnswers, loads_by}
+use Rattle.block_versions.specs.local_state.Known.{live_ids}
 use Rattle.outside.specs.Trace.{Call}
-use Rattle.given_reads.specs.store_api.Content.{Id}
-use Rattle.given_reads.specs.store_api.Loads.{LoadAnswer}
+use Rattle.block_versions.specs.store_api.Content.{Id}
+use Rattle.block_versions.specs.store_api.Loads.{LoadAnswer}
 use Rattle.check_runs.specs.Judging.{read_by, IsProven}
 
 module _ {T : Type 0} (held : T → Held) (trace : T → Option (List Call)) where

@@ -5,13 +5,13 @@ use Rattle.std.specs.declared.alloc.Global.{Global}
 use Rattle.std.specs.declared.option.Option.{Option}
 use Rattle.block_id.specs.declared.fail.Fail.{Fail}
 use Rattle.block_id.specs.declared.fail.Fail.TheVariants as fail
-use Rattle.block_paths.specs.block_survey.declared.survey.Refused.{Refused}
-use Rattle.cryfs_setup.specs.config_file.Settings.{Settings}
-use Rattle.block_paths.specs.cryfs_check.declared.checking.Checked.{Checked}
-use Rattle.block_paths.specs.cryfs_check.declared.checking.Checked.TheVariants.{Yes, No}
+use Rattle.check_refused.specs.declared.survey.Refused.{Refused}
+use Rattle.setup_runs.specs.config_file.Settings.{Settings}
+use Rattle.check_refused.specs.cryfs_check.declared.checking.Checked.{Checked}
+use Rattle.check_refused.specs.cryfs_check.declared.checking.Checked.TheVariants.{Yes, No}
 use Rattle.fs_model.specs.Tree.{Tree}
 use Rattle.check_texts.specs.line_io.Streams.{Stream, HasFailed}
-use Rattle.given_reads.specs.outcome.Meanings.{HasCause, IsQuiet}
+use Rattle.check_walk.specs.store_outcome.Meanings.{HasCause, IsQuiet}
 use Rattle.outside.specs.Causes.{RoseBy}
 use Rattle.outside.specs.Trace.{Call}
 use Rattle.outside.specs.declared.keeper.Keeper.{Ghosts as KeeperGhosts}
@@ -19,9 +19,9 @@ use Rattle.run_status.specs.declared.ended.Ended.{Ended}
 use Rattle.run_status.specs.declared.status.Status.{Status}
 use Rattle.run_status.specs.declared.status.Status.TheVariants.{Violation, DirectoryFault, OutputFault, Memory}
 use Rattle.check_texts.specs.session_lines.Driven.{IsUnfailed}
-use Rattle.cryfs_setup.specs.session_runs.Openings.{HasCauses, StayOpen}
-use Rattle.cryfs_setup.specs.session_runs.Runs.{Outside, outside_of, OpensTo, IsQuietRun, PasswordOpens, lies}
-use Rattle.cryfs_setup.specs.mount_core.Showing.{ShowsFiles}
+use Rattle.setup_runs.specs.session_laws.Openings.{HasCauses, StayOpen}
+use Rattle.setup_runs.specs.session_laws.Runs.{Outside, outside_of, OpensTo, IsQuietRun, PasswordOpens, lies}
+use Rattle.setup_runs.specs.mount_core.Showing.{ShowsFiles}
 use Rattle.check_texts.specs.Surveys.{IsTextTold, AreRefusedTold, IsSurveyTold, status_of_fail}
 use Rattle.check_texts.specs.Telling.{ListsAfter}
 use Rattle.check_runs.specs.Judging.{is_bad}

@@ -6,11 +6,11 @@ use Rattle.std.specs.declared.result.Result.TheVariants.{Ok, Err}
 use Rattle.check_texts.specs.line_io.Streams.{Stream}
 use Rattle.outside.specs.Trace.{Call}
 use Rattle.outside.specs.declared.keeper.Keeper.{Ghosts as KeeperGhosts}
-use Rattle.cryfs_setup.specs.run_edges.Statuses.{closing_status}
+use Rattle.setup_runs.specs.run_frame.Statuses.{closing_status}
 use Rattle.run_status.specs.Statuses.{first_of}
 use Rattle.run_status.specs.declared.status.Status.{Status}
 use Rattle.run_status.specs.declared.status.Status.TheVariants.{Done}
-use Rattle.cryfs_setup.specs.session_saver.declared.saver.SyncError.{SyncError}
+use Rattle.setup_runs.specs.record_saver.declared.saver.SyncError.{SyncError}
 use Rattle.check_texts.specs.Surveys.{IsSurveyTold}
 use Rattle.check_texts.specs.Telling.{IsTold, ListsAfter}
 use Rattle.check_runs.proofs.Leaving.{check_status, first_done}

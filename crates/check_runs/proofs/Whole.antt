@@ -2,33 +2,33 @@
 use Rattle.std.proofs.Common.{◌≡◌, ◌⊎◌, ◌≤◌, ◌∙◌, ℕ, Bool, true, false, List, [], ◌∷◌, sym, ap, subst, inl, inr, arith}
 use Rattle.std.specs.Prelude.{is_some, IfErr, IsOk}
 use Rattle.std.specs.declared.option.Option.{Option}
-use Rattle.cryfs_setup.specs.config_file.Settings.{Settings, settings_of}
+use Rattle.setup_runs.specs.config_file.Settings.{Settings, settings_of}
 use Rattle.fs_model.specs.Tree.{Tree}
-use Rattle.given_reads.specs.held_blocks.Standing.{records}
-use Rattle.cryfs_setup.proofs.mount_lemmas.Formats.{equal_same, loaded_same}
-use Rattle.cryfs_setup.specs.mount.Answering.{store_of, calls_of, vault_faults, keeper_faults, kept_of}
-use Rattle.cryfs_setup.specs.mount.declared.mount.Mount.{Mount}
-use Rattle.cryfs_setup.specs.mount.Formats.{TakesSame}
-use Rattle.cryfs_setup.specs.mount.Mounts.{IsReady}
-use Rattle.cryfs_setup.specs.mount.Tower.{TowerConfigures}
-use Rattle.cryfs_setup.proofs.mount_answering_lemmas.Lines.{marked_or}
-use Rattle.cryfs_setup.specs.mount_blocks.Examined.{OnlyExamined}
-use Rattle.cryfs_setup.specs.mount_core.Standing.{IsKeptMarked}
-use Rattle.cryfs_setup.specs.mount_tower.Tower.{Cached, held_in, vault_in, trace_in}
-use Rattle.given_reads.specs.outcome.Meanings.{HasCause, IsQuiet}
+use Rattle.block_versions.specs.Standing.{records}
+use Rattle.setup_runs.proofs.mount_lemmas.Formats.{equal_same, loaded_same}
+use Rattle.setup_runs.specs.mount.Answering.{store_of, calls_of, vault_faults, keeper_faults, kept_of}
+use Rattle.setup_runs.specs.mount.declared.mount.Mount.{Mount}
+use Rattle.setup_runs.specs.mount.Formats.{TakesSame}
+use Rattle.setup_runs.specs.mount.Mounts.{IsReady}
+use Rattle.setup_runs.specs.mount.Tower.{TowerConfigures}
+use Rattle.setup_runs.proofs.mount_answering_lemmas.Lines.{marked_or}
+use Rattle.check_blocks.specs.Examined.{OnlyExamined}
+use Rattle.setup_runs.specs.mount_core.Standing.{IsKeptMarked}
+use Rattle.setup_runs.specs.mount_stores.Tower.{Cached, held_in, vault_in, trace_in}
+use Rattle.check_walk.specs.store_outcome.Meanings.{HasCause, IsQuiet}
 use Rattle.outside.specs.Causes.{RoseBy}
 use Rattle.outside.specs.Trace.{Call}
 use Rattle.outside.specs.declared.keeper.Keeper.{Ghosts as KeeperGhosts}
-use Rattle.cryfs_setup.proofs.session_runs_lemmas.Still.{went_got}
-use Rattle.cryfs_setup.proofs.session_runs_lemmas.Whole.{only_one}
-use Rattle.cryfs_setup.specs.session_runs.Openings.{StayOpen}
-use Rattle.cryfs_setup.specs.session_runs.Resting.{OnlyGot}
-use Rattle.cryfs_setup.specs.session_runs.Runs.{Outside, outside_of, OutsideStandsFor, lies, OpensTo, IsExaminedRun}
-use Rattle.cryfs_setup.specs.session_runs.Turns.{Begun}
-use Rattle.cryfs_setup.specs.session_saver.Saving.{KeptConfigures}
-use Rattle.cryfs_setup.specs.session_saver.declared.saver.Saver.{Saver}
-use Rattle.given_reads.specs.store_api.declared.tx.Tx.{Tx}
-use Rattle.cryfs_setup.specs.mount_core.Showing.{ShowsFiles}
+use Rattle.setup_runs.proofs.session_laws_lemmas.Still.{went_got}
+use Rattle.setup_runs.proofs.session_laws_lemmas.Whole.{only_one}
+use Rattle.setup_runs.specs.session_laws.Openings.{StayOpen}
+use Rattle.setup_runs.specs.session_laws.Resting.{OnlyGot}
+use Rattle.setup_runs.specs.session_laws.Runs.{Outside, outside_of, OutsideStandsFor, lies, OpensTo, IsExaminedRun}
+use Rattle.setup_runs.specs.session_laws.Turns.{Begun}
+use Rattle.setup_runs.specs.record_saver.Saving.{KeptConfigures}
+use Rattle.setup_runs.specs.record_saver.declared.saver.Saver.{Saver}
+use Rattle.block_versions.specs.store_api.declared.tx.Tx.{Tx}
+use Rattle.setup_runs.specs.mount_core.Showing.{ShowsFiles}
 use Rattle.check_runs.specs.declared.examining.Examination.{Examination}
 use Rattle.check_runs.specs.Judging.{is_bad, held_for, IsJudged, Settles}
 use Rattle.check_runs.specs.Examining.{Examines, LeavesExamined, IsExamined}

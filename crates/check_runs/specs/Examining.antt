@@ -1,23 +1,23 @@
 -- What a run of a check found, and what it leaves.
 use Rattle.std.specs.Prelude.{◌≡◌, ◌⊎◌, ◌≤◌, ℕ, true, false, List, IfErr, IsOk}
 use Rattle.std.specs.declared.option.Option.{Option}
-use Rattle.cryfs_setup.specs.config_file.Settings.{Settings, settings_of}
-use Rattle.cryfs_setup.specs.config_file.declared.config.Opened.{Opened}
+use Rattle.setup_runs.specs.config_file.Settings.{Settings, settings_of}
+use Rattle.setup_runs.specs.config_file.declared.config.Opened.{Opened}
 use Rattle.fs_model.specs.Tree.{Tree}
-use Rattle.given_reads.specs.held_blocks.Standing.{records}
-use Rattle.cryfs_setup.specs.mount.Mounts.{Attached}
-use Rattle.cryfs_setup.specs.mount.declared.mount.Mount.{Mount}
-use Rattle.cryfs_setup.specs.mount_blocks.declared.examined.Examined.{Examined}
-use Rattle.cryfs_setup.specs.mount_core.Standing.{IsKeptMarked}
-use Rattle.given_reads.specs.outcome.Meanings.{HasCause, IsQuiet}
+use Rattle.block_versions.specs.Standing.{records}
+use Rattle.setup_runs.specs.mount.Mounts.{Attached}
+use Rattle.setup_runs.specs.mount.declared.mount.Mount.{Mount}
+use Rattle.check_blocks.specs.declared.examined.Examined.{Examined}
+use Rattle.setup_runs.specs.mount_core.Standing.{IsKeptMarked}
+use Rattle.check_walk.specs.store_outcome.Meanings.{HasCause, IsQuiet}
 use Rattle.outside.specs.Causes.{RoseBy}
 use Rattle.outside.specs.Trace.{Call}
 use Rattle.outside.specs.declared.keeper.Keeper.{Ghosts as KeeperGhosts}
-use Rattle.cryfs_setup.specs.session_runs.Openings.{StayOpen}
-use Rattle.cryfs_setup.specs.session_runs.Resting.{OnlyGot}
-use Rattle.cryfs_setup.specs.session_runs.Runs.{outside_of, OpensTo, IsExaminedRun}
-use Rattle.cryfs_setup.specs.session_runs.Turns.{Closing}
-use Rattle.cryfs_setup.specs.mount_core.Showing.{ShowsFiles}
+use Rattle.setup_runs.specs.session_laws.Openings.{StayOpen}
+use Rattle.setup_runs.specs.session_laws.Resting.{OnlyGot}
+use Rattle.setup_runs.specs.session_laws.Runs.{outside_of, OpensTo, IsExaminedRun}
+use Rattle.setup_runs.specs.session_laws.Turns.{Closing}
+use Rattle.setup_runs.specs.mount_core.Showing.{ShowsFiles}
 use Rattle.check_runs.specs.declared.examining.Examination.{Examination}
 use Rattle.check_runs.specs.Judging.{is_bad, held_for, IsJudged, Judges, Settles}
 

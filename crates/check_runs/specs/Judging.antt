@@ -3,35 +3,35 @@ use Rattle.std.specs.Prelude.{◌≡◌, ◌≤◌, ◌-◌, ℕ, Bool, true, fa
 use Rattle.std.specs.declared.option.Option.{Option}
 use Rattle.block_id.specs.declared.fail.Fail.{Fail}
 use Rattle.block_id.specs.declared.fail.Fail.TheVariants.{Memory, Fault, Violation}
-use Rattle.given_reads.specs.block_walk.Given.{Given}
-use Rattle.block_paths.specs.check_rules.Certificates.{Owners, Certifies}
-use Rattle.cryfs_setup.specs.config_file.Settings.{Settings}
-use Rattle.cryfs_setup.specs.aes_gcm.Gcm.{opened_of}
-use Rattle.block_paths.specs.cryfs_check.Checks.{OnYes, OnNo, AsksOnce, IsRefuted}
-use Rattle.block_paths.specs.cryfs_check.declared.checking.Checked.{Checked}
-use Rattle.block_paths.specs.cryfs_check.declared.checking.Checked.TheVariants.{Yes, No}
+use Rattle.check_walk.specs.Given.{Given}
+use Rattle.check_refused.specs.check_rules.Certificates.{Owners, Certifies}
+use Rattle.setup_runs.specs.config_file.Settings.{Settings}
+use Rattle.setup_runs.specs.aes_gcm.Gcm.{opened_of}
+use Rattle.check_refused.specs.cryfs_check.Checks.{OnYes, OnNo, AsksOnce, IsRefuted}
+use Rattle.check_refused.specs.cryfs_check.declared.checking.Checked.{Checked}
+use Rattle.check_refused.specs.cryfs_check.declared.checking.Checked.TheVariants.{Yes, No}
 use Rattle.fs_model.specs.Tree.{Tree}
-use Rattle.given_reads.specs.Reads.{GivesReads}
-use Rattle.given_reads.specs.held_blocks.Held.{Held}
-use Rattle.given_reads.specs.held_blocks.Loads.{loads_by}
-use Rattle.given_reads.specs.held_blocks.Reads.{FoundSince, GaveWrong}
-use Rattle.given_reads.specs.local_state.Known.{live_ids}
-use Rattle.given_reads.specs.local_state.Record.{PlainState}
-use Rattle.cryfs_setup.specs.mount.Answering.{store_of, lies_of, vault_faults}
-use Rattle.cryfs_setup.specs.mount.Mounts.{IsReady}
-use Rattle.cryfs_setup.specs.mount.declared.mount.Mount.{Mount}
-use Rattle.cryfs_setup.specs.mount.Tower.{TowerStands}
-use Rattle.cryfs_setup.specs.mount_blocks.Examined.{OnlyExamined, held_of, trace_of}
-use Rattle.cryfs_setup.specs.mount_blocks.declared.examined.Examined.{Examined}
-use Rattle.cryfs_setup.specs.mount_calls.Condemning.{Condemns}
-use Rattle.cryfs_setup.specs.mount_tower.Tower.{tower_holdings}
-use Rattle.given_reads.specs.outcome.Meanings.{IsNoticed, IsOfBlocks, HasCause, IsQuiet, OnVerdict}
+use Rattle.check_runs.specs.Reads.{GivesReads}
+use Rattle.block_versions.specs.Held.{Held}
+use Rattle.block_versions.specs.Loads.{loads_by}
+use Rattle.block_versions.specs.Reads.{FoundSince, GaveWrong}
+use Rattle.block_versions.specs.local_state.Known.{live_ids}
+use Rattle.block_versions.specs.local_state.Record.{PlainState}
+use Rattle.setup_runs.specs.mount.Answering.{store_of, lies_of, vault_faults}
+use Rattle.setup_runs.specs.mount.Mounts.{IsReady}
+use Rattle.setup_runs.specs.mount.declared.mount.Mount.{Mount}
+use Rattle.setup_runs.specs.mount.Tower.{TowerStands}
+use Rattle.check_blocks.specs.Examined.{OnlyExamined, held_of, trace_of}
+use Rattle.check_blocks.specs.declared.examined.Examined.{Examined}
+use Rattle.setup_runs.specs.mount_calls.Condemning.{Condemns}
+use Rattle.setup_runs.specs.mount_stores.Tower.{tower_holdings}
+use Rattle.check_walk.specs.store_outcome.Meanings.{IsNoticed, IsOfBlocks, HasCause, IsQuiet, OnVerdict}
 use Rattle.outside.specs.Trace.{Call}
 use Rattle.outside.specs.declared.keeper.Keeper.{Ghosts as KeeperGhosts}
-use Rattle.given_reads.specs.store_api.Content.{Id}
-use Rattle.given_reads.specs.store_api.Holdings.{Stays}
-use Rattle.given_reads.specs.store_api.Loads.{LoadAnswer}
-use Rattle.cryfs_setup.specs.mount_core.Showing.{ShowsFiles}
+use Rattle.block_versions.specs.store_api.Content.{Id}
+use Rattle.block_versions.specs.store_api.Holdings.{Stays}
+use Rattle.block_versions.specs.store_api.Loads.{LoadAnswer}
+use Rattle.setup_runs.specs.mount_core.Showing.{ShowsFiles}
 
 -- a flaw or a violation was found
 abbrev pub is_bad : Result Checked Fail → Bool

@@ -2,13 +2,13 @@
 use Rattle.std.specs.Prelude.{◌≡◌, ◌⊎◌, ℕ, List}
 use Rattle.std.specs.declared.option.Option.{Option}
 use Rattle.check_texts.specs.line_io.Streams.{Stream, Untouched}
-use Rattle.cryfs_setup.specs.mount_tower.declared.error.OpenError.{OpenError}
+use Rattle.setup_runs.specs.mount_stores.declared.error.OpenError.{OpenError}
 use Rattle.outside.specs.Trace.{Call}
 use Rattle.outside.specs.declared.keeper.Keeper.{Ghosts as KeeperGhosts}
-use Rattle.cryfs_setup.specs.passwords.Passwords.{PasswordUnread}
+use Rattle.setup_runs.specs.run_frame.Passwords.{PasswordUnread}
 use Rattle.run_status.specs.declared.ended.Ended.{Ended}
 use Rattle.check_texts.specs.session_lines.Driven.{IsUnfailed}
-use Rattle.cryfs_setup.specs.session_runs.Openings.{HasPassword, IsUnread, IsUnopened}
+use Rattle.setup_runs.specs.session_laws.Openings.{HasPassword, IsUnread, IsUnopened}
 use Rattle.check_texts.specs.Telling.{IsTold, ListsAfter}
 use Rattle.check_runs.specs.declared.examining.Examination.{Examination}
 use Rattle.check_runs.specs.Examining.{IsExamined}

@@ -3,30 +3,30 @@ use Rattle.std.specs.Prelude.{◌≡◌, ◌≤◌, ℕ, Bool, true, false, List
 use Rattle.std.specs.declared.alloc.Global.{Global}
 use Rattle.std.specs.declared.option.Option.{Option}
 use Rattle.block_id.specs.declared.fail.Fail.{Fail}
-use Rattle.block_paths.specs.block_survey.Surveys.{IsSurvey, IsCutShort, refusal_of}
-use Rattle.block_paths.specs.block_survey.declared.survey.Refused.{Refused}
-use Rattle.cryfs_setup.specs.config_file.Settings.{Settings, settings_of}
-use Rattle.cryfs_setup.specs.config_file.declared.config.Opened.{Opened}
+use Rattle.check_refused.specs.Surveys.{IsSurvey, IsCutShort, refusal_of}
+use Rattle.check_refused.specs.declared.survey.Refused.{Refused}
+use Rattle.setup_runs.specs.config_file.Settings.{Settings, settings_of}
+use Rattle.setup_runs.specs.config_file.declared.config.Opened.{Opened}
 use Rattle.fs_model.specs.Tree.{Tree}
-use Rattle.given_reads.specs.held_blocks.Held.{Held}
-use Rattle.given_reads.specs.held_blocks.Standing.{records}
-use Rattle.given_reads.specs.local_state.Known.{live_ids}
-use Rattle.cryfs_setup.specs.mount.Answering.{store_of, vault_faults}
-use Rattle.cryfs_setup.specs.mount.Mounts.{IsReady, Attached}
-use Rattle.cryfs_setup.specs.mount.declared.mount.Mount.{Mount}
-use Rattle.cryfs_setup.specs.mount_blocks.Examined.{OnlyExamined, held_of, trace_of}
-use Rattle.cryfs_setup.specs.mount_blocks.declared.examined.Examined.{Examined}
-use Rattle.cryfs_setup.specs.mount_core.Standing.{IsKeptMarked}
-use Rattle.cryfs_setup.specs.mount_tower.Tower.{tower_holdings}
-use Rattle.given_reads.specs.outcome.Meanings.{IsCalm, HasCause, IsQuiet}
+use Rattle.block_versions.specs.Held.{Held}
+use Rattle.block_versions.specs.Standing.{records}
+use Rattle.block_versions.specs.local_state.Known.{live_ids}
+use Rattle.setup_runs.specs.mount.Answering.{store_of, vault_faults}
+use Rattle.setup_runs.specs.mount.Mounts.{IsReady, Attached}
+use Rattle.setup_runs.specs.mount.declared.mount.Mount.{Mount}
+use Rattle.check_blocks.specs.Examined.{OnlyExamined, held_of, trace_of}
+use Rattle.check_blocks.specs.declared.examined.Examined.{Examined}
+use Rattle.setup_runs.specs.mount_core.Standing.{IsKeptMarked}
+use Rattle.setup_runs.specs.mount_stores.Tower.{tower_holdings}
+use Rattle.check_walk.specs.store_outcome.Meanings.{IsCalm, HasCause, IsQuiet}
 use Rattle.outside.specs.Trace.{Call}
 use Rattle.outside.specs.declared.keeper.Keeper.{Ghosts as KeeperGhosts}
-use Rattle.cryfs_setup.specs.session_runs.Openings.{StayOpen}
-use Rattle.cryfs_setup.specs.session_runs.Resting.{OnlyGot}
-use Rattle.cryfs_setup.specs.session_runs.Runs.{outside_of, lies, OpensTo, IsQuietRun}
-use Rattle.cryfs_setup.specs.session_runs.Turns.{Closing}
-use Rattle.given_reads.specs.store_api.Holdings.{Stays}
-use Rattle.cryfs_setup.specs.mount_core.Showing.{ShowsFiles}
+use Rattle.setup_runs.specs.session_laws.Openings.{StayOpen}
+use Rattle.setup_runs.specs.session_laws.Resting.{OnlyGot}
+use Rattle.setup_runs.specs.session_laws.Runs.{outside_of, lies, OpensTo, IsQuietRun}
+use Rattle.setup_runs.specs.session_laws.Turns.{Closing}
+use Rattle.block_versions.specs.store_api.Holdings.{Stays}
+use Rattle.setup_runs.specs.mount_core.Showing.{ShowsFiles}
 use Rattle.check_runs.specs.Judging.{is_bad, held_for, read_by, IsJudged, Judges}
 use Rattle.check_runs.specs.declared.surveying.Survey.{Survey}
 

@@ -1,19 +1,19 @@
 // The check of an opened file system, from its opening to its closing.
 ghost use Rattle.std.specs.Prelude.{◌≡◌, IfOk, IfErr};
-ghost use Rattle.cryfs_setup.specs.mount.Mounts.{IsReady};
-ghost use Rattle.cryfs_setup.specs.mount_tower.declared.error.OpenError.{OpenError};
-ghost use Rattle.cryfs_setup.specs.session_runs.Openings.{HasCauses, IsUnopened};
-ghost use Rattle.cryfs_setup.specs.session_runs.Runs.{outside_of};
+ghost use Rattle.setup_runs.specs.mount.Mounts.{IsReady};
+ghost use Rattle.setup_runs.specs.mount_stores.declared.error.OpenError.{OpenError};
+ghost use Rattle.setup_runs.specs.session_laws.Openings.{HasCauses, IsUnopened};
+ghost use Rattle.setup_runs.specs.session_laws.Runs.{outside_of};
 ghost use Rattle.check_runs.specs.Judging.{is_bad, Judges, Settles};
 ghost use Rattle.check_runs.specs.Examining.{Examines, IsExamined};
 
 use block_id::{Fail, Memory};
-use block_paths::cryfs_check::{Checked, check};
-use cryfs_setup::mount_blocks::Examined;
-use cryfs_setup::session_saver::SyncError;
-use cryfs_setup::{Mount, close, condemn, open};
+use check_blocks::Examined;
+use check_refused::cryfs_check::{Checked, check};
 use outside::{Keeper, Vault};
 use run_status::Ended;
+use setup_runs::record_saver::SyncError;
+use setup_runs::{Mount, close, condemn, open};
 use std::alloc::Global;
 
 /// What a check found, how the file system was closed, and what it was opened over.

@@ -1,17 +1,21 @@
 //! The run of a check: a file system is opened, each of its blocks is loaded from the directory and judged, what is kept is
 //! marked after a flaw or a violation, it is closed, and what was found is told.
+//!
+//! What a chain of loads was given by a directory of sealed files: where nothing waits to be written, one get for each payload, and its verdict.
 #![tactic(auto)]
 
 mod examining;
+mod law;
 mod running;
 mod survey_run;
 mod surveying;
 
-pub use cryfs_setup::{run_create, run_info, run_migrate, run_passwd};
 pub use examining::{Examination, examine};
+pub use law::gave_reads;
 pub use running::run_check;
+pub use setup_runs::{run_create, run_info, run_migrate, run_passwd};
 pub use survey_run::run_survey;
 pub use surveying::{Survey, survey_under};
 
 // Handed on to crates above, which needn't list them.
-pub use check_texts::listing;
+pub use check_texts::outside;

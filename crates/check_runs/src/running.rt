@@ -1,18 +1,16 @@
 // `check`: checks a whole file system.
 ghost use Rattle.std.specs.Prelude.{◌≡◌, ◌≤◌, []};
 ghost use Rattle.check_texts.specs.line_io.Streams.{stream_of};
-ghost use Rattle.cryfs_setup.specs.session_runs.Openings.{HasCauses};
-ghost use Rattle.cryfs_setup.specs.session_runs.Runs.{outside_of};
+ghost use Rattle.setup_runs.specs.session_laws.Openings.{HasCauses};
+ghost use Rattle.setup_runs.specs.session_laws.Runs.{outside_of};
 ghost use Rattle.check_runs.specs.Running.{CheckedUnder, RanCheck};
 
 use crate::examining::{Examination, examine};
 use block_id::Memory;
-use check_texts::listing::Listing;
 use check_texts::{Page, tell_verdict};
-use cryfs_setup::passwords::read_password;
-use cryfs_setup::run_edges::closing_status;
-use outside::{Keeper, Sink, Source, Vault};
+use outside::{Keeper, Listing, Sink, Source, Vault};
 use run_status::{Ended, Status, Storage};
+use setup_runs::run_frame::{closing_status, read_password};
 use std::alloc::Global;
 
 /// Opens the file system under the password line of the input, checks and closes it, and tells what was found: each block

@@ -3,7 +3,7 @@ use crate::blocks::{Disk, NONE};
 use crate::judge::{Judge, judged};
 use crate::stores::check_disk;
 use block_id::BlockId;
-use cryfs_check::block_walk::Flaw;
+use cryfs_check::check_walk::Flaw;
 use cryfs_check::{Checked, Owners};
 use fs_model::Path;
 use std::alloc::Global;

@@ -2,12 +2,11 @@
 use crate::blocks::Disk;
 use block_id::BlockId;
 use cryfs_check::{Checked, check};
-use map_store::MapStore;
-use map_store::store_api::{Blocks, BlocksMut};
+use memory_stores::store_api::{Blocks, BlocksMut};
+use memory_stores::{MapStore, put_one};
 use rand_pcg::Pcg32;
 use std::alloc::Global;
 use std::test::Fail;
-use store_session::put_one;
 
 /// Puts all blocks, whose ids have to be new.
 fn put_all<S: BlocksMut>(alloc: Global, store: &mut S, disk: &Disk) -> Result<(), Fail>

@@ -9,9 +9,9 @@ use Rattle.std.specs.declared.option.Option.TheVariants.{None, Some}
 use Rattle.block_id.specs.declared.id.BlockId.{BlockId}
 use Rattle.cryfs_check.specs.check_rules.Certificates.{Owners}
 use Rattle.fs_model.specs.Tree.{Path}
-use Rattle.listing.specs.FileTexts.{text_of_file}
+use Rattle.outside.specs.FileTexts.{text_of_file}
 use Rattle.outside.specs.Trace.{block}
-use Rattle.block_survey.specs.store_api.Content.{Id}
+use Rattle.check_refused.specs.store_api.Content.{Id}
 use Rattle.check_texts.proofs.Passing.{more_in}
 use Rattle.check_texts.specs.Strangers.{block_file}
 use Rattle.check_texts.specs.Texts.{owner_text, owner_text_at}

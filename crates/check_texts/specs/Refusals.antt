@@ -8,12 +8,12 @@ use Rattle.std.specs.declared.result.Result.TheVariants.{Ok, Err}
 use Rattle.block_id.specs.Name.{name_of}
 use Rattle.block_id.specs.declared.fail.Fail.{Fail}
 use Rattle.block_id.specs.declared.fail.Fail.TheVariants.{Memory, Fault, Violation}
-use Rattle.block_survey.specs.declared.survey.Refused.{Refused}
+use Rattle.check_refused.specs.declared.survey.Refused.{Refused}
 use Rattle.copy_sessions.specs.Texts.{path_text}
 use Rattle.cryfs_check.specs.declared.checking.Checked.{Checked}
 use Rattle.cryfs_check.specs.declared.checking.Checked.TheVariants.{Yes, No}
 use Rattle.copy_sessions.specs.script_text.Texts.{line, word}
-use Rattle.block_survey.specs.store_api.Content.{Id}
+use Rattle.check_refused.specs.store_api.Content.{Id}
 use Rattle.check_texts.specs.Texts.{flaw_text, violation_text}
 
 -- the names of a path from the root on, or a question mark where none is known

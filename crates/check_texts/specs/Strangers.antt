@@ -8,10 +8,10 @@ use Rattle.std.specs.Str.{bytes_eq}
 use Rattle.cryfs_check.specs.check_rules.Certificates.{Owners}
 use Rattle.fs_model.specs.Tree.{Path}
 use Rattle.copy_sessions.specs.line_io.Streams.{Stream}
-use Rattle.listing.specs.FileTexts.{text_of_file}
+use Rattle.outside.specs.FileTexts.{text_of_file}
 use Rattle.outside.specs.Trace.{config, block}
 use Rattle.copy_sessions.specs.script_text.Texts.{escaped, line, word}
-use Rattle.block_survey.specs.store_api.Content.{Id}
+use Rattle.check_refused.specs.store_api.Content.{Id}
 use Rattle.check_texts.specs.declared.error.PrintError.{PrintError}
 use Rattle.check_texts.specs.Printing.{IsPrinted}
 

@@ -5,7 +5,7 @@ use Rattle.std.specs.declared.option.Option.{Option}
 use Rattle.std.specs.declared.result.Result.TheVariants.{Ok, Err}
 use Rattle.block_id.specs.declared.fail.Fail.{Fail}
 use Rattle.block_id.specs.declared.fail.Fail.TheVariants as fail
-use Rattle.block_survey.specs.declared.survey.Refused.{Refused}
+use Rattle.check_refused.specs.declared.survey.Refused.{Refused}
 use Rattle.cryfs_check.specs.declared.checking.Checked.{Checked}
 use Rattle.cryfs_check.specs.declared.checking.Checked.TheVariants.{No}
 use Rattle.copy_sessions.specs.line_io.Streams.{Stream, HasFailed, Cut, Untouched}

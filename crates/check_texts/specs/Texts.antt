@@ -9,13 +9,13 @@ use Rattle.copy_sessions.specs.answers.declared.answer.Answer.TheVariants.{Viola
 use Rattle.block_id.specs.Name.{name_of}
 use Rattle.block_id.specs.declared.id.BlockId.{BlockId}
 use Rattle.block_id.specs.declared.fail.Why.{Why}
-use Rattle.block_survey.specs.block_walk.declared.flaw.Flaw.{Flaw}
-use Rattle.block_survey.specs.block_walk.declared.flaw.Flaw.TheVariants.{BadNode, BadBlob, Parent, Twice, NotLive, Unowned}
+use Rattle.check_refused.specs.check_walk.declared.flaw.Flaw.{Flaw}
+use Rattle.check_refused.specs.check_walk.declared.flaw.Flaw.TheVariants.{BadNode, BadBlob, Parent, Twice, NotLive, Unowned}
 use Rattle.cryfs_check.specs.check_rules.Certificates.{Owners}
 use Rattle.copy_sessions.specs.Texts.{path_text}
 use Rattle.fs_model.specs.Tree.{Path}
 use Rattle.copy_sessions.specs.script_text.Texts.{line, word}
-use Rattle.block_survey.specs.store_api.Content.{Id}
+use Rattle.check_refused.specs.store_api.Content.{Id}
 
 -- ---- of blocks that have their owners
 

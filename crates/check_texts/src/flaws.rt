@@ -9,7 +9,7 @@ ghost use Rattle.copy_sessions.specs.session_lines.Driven.{Reported};
 
 use crate::page::Page;
 use block_id::{BlockId, Failed, Memory, Why};
-use block_survey::block_walk::Flaw;
+use check_refused::check_walk::Flaw;
 use copy_sessions::answers::{Answer, print_answer};
 use copy_sessions::line_io::write_all;
 use copy_sessions::script_text::push_bytes;

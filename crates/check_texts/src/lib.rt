@@ -16,4 +16,4 @@ pub use surveys::tell_survey;
 pub use telling::tell_verdict;
 
 // Handed on to crates above, which needn't list them.
-pub use listing;
+pub use outside;

@@ -11,7 +11,7 @@ use crate::error::PrintError;
 use crate::flaws::push_flaw;
 use crate::page::Page;
 use block_id::{BlockId, Fail, Memory, Why};
-use block_survey::Refused;
+use check_refused::Refused;
 use copy_sessions::answers::{Answer, print_answer};
 use copy_sessions::push_path;
 use copy_sessions::script_text::{push_bytes, push_decimal};

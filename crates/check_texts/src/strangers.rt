@@ -16,8 +16,7 @@ use block_id::Memory;
 use copy_sessions::push_escaped;
 use copy_sessions::script_text::push_bytes;
 use cryfs_check::Owners;
-use listing::{ByteLine, file_text};
-use outside::{FileName, Sink};
+use outside::{ByteLine, FileName, Sink, file_text};
 use std::alloc::Global;
 
 /// Prints each of these names that is neither the configuration's nor that of a live block, in the order of their bytes.

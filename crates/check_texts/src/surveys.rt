@@ -9,10 +9,9 @@ use crate::page::Page;
 use crate::refused::print_survey;
 use crate::telling::tell_verdict;
 use block_id::Fail;
-use block_survey::Refused;
+use check_refused::Refused;
 use cryfs_check::Checked;
-use listing::Listing;
-use outside::{Sink, Vault};
+use outside::{Listing, Sink, Vault};
 use run_status::Status;
 use std::alloc::Global;
 

@@ -10,8 +10,7 @@ use crate::page::Page;
 use crate::strangers::print_strangers;
 use block_id::Fail;
 use cryfs_check::{Checked, Owners};
-use listing::Listing;
-use outside::{GetFail, Sink, Vault};
+use outside::{GetFail, Listing, Sink, Vault};
 use run_status::Status;
 use std::alloc::Global;
 

@@ -3,18 +3,18 @@ use Rattle.std.proofs.Common.{sym, subst}
 use Rattle.std.specs.declared.option.Option.{Option}
 use Rattle.std.specs.declared.result.Result.{Result}
 use Rattle.std.specs.declared.result.Result.TheVariants.{Ok, Err}
-use Rattle.file_copies.specs.answers.declared.answer.Answer.{Answer}
-use Rattle.file_copies.specs.line_io.Streams.{Stream}
-use Rattle.shell_sessions.specs.run_edges.Statuses.{IsOwn}
+use Rattle.copy_file.specs.answers.declared.answer.Answer.{Answer}
+use Rattle.copy_file.specs.line_io.Streams.{Stream}
+use Rattle.shell_runs.specs.run_frame.Statuses.{IsOwn}
 use Rattle.run_status.specs.declared.status.Status.{Status}
-use Rattle.file_copies.specs.session_lines.declared.end.End.{End}
+use Rattle.copy_file.specs.session_lines.declared.end.End.{End}
 use Rattle.tree_copy.specs.host_folder.Folders.{HostPath}
-use Rattle.tree_copy.specs.copy_rules.declared.copied.Totals.{Totals}
-use Rattle.tree_copy.specs.copy_rules.declared.copied.CopyFail.TheVariants as fail
-use Rattle.file_copies.specs.copy_sessions.declared.way.Way.TheVariants.{In}
-use Rattle.tree_copy.specs.row_copy.declared.stop.Stop.{Stop}
-use Rattle.tree_copy.specs.row_copy.declared.stop.Stop.TheVariants as stop
-use Rattle.file_copies.specs.Coming.{IsPutTold, IsGetEnd}
+use Rattle.tree_copy.specs.copy_laws.declared.copied.Totals.{Totals}
+use Rattle.tree_copy.specs.copy_laws.declared.copied.CopyFail.TheVariants as fail
+use Rattle.copy_file.specs.copy_sessions.declared.way.Way.TheVariants.{In}
+use Rattle.tree_copy.specs.copy_row.declared.stop.Stop.{Stop}
+use Rattle.tree_copy.specs.copy_row.declared.stop.Stop.TheVariants as stop
+use Rattle.copy_file.specs.Coming.{IsPutTold, IsGetEnd}
 use Rattle.copy_runs.proofs.Serving.{is_own, mild_stop}
 
 pub put_own : (put : Result Totals Stop) (path : HostPath) (kept : Option Answer) (output : Stream) (end : End) (own : Status) → IsPutTold put path kept output end own → IsOwn own

@@ -4,11 +4,11 @@ use Rattle.fs_model.specs.declared.command.Command.{Command}
 use Rattle.fs_model.specs.declared.command.Command.TheVariants as command
 use Rattle.fs_model.specs.declared.reply.Reply.{Reply}
 use Rattle.fs_model.specs.declared.reply.Reply.TheVariants.{Done, Rows, Info, Target, Content, Error}
-use Rattle.file_copies.specs.answers.declared.answer.Answer.{Answer}
-use Rattle.file_copies.specs.answers.declared.answer.Answer.TheVariants.{Reply as Replied}
-use Rattle.shell_sessions.specs.mount_core.Answers.{OnReply}
-use Rattle.shell_sessions.specs.mount_core.Showing.{is_reader, IsReplyTo as IsFormOf}
-use Rattle.tree_copy.specs.copy_rules.Questions.{IsReplyTo}
+use Rattle.copy_file.specs.answers.declared.answer.Answer.{Answer}
+use Rattle.copy_file.specs.answers.declared.answer.Answer.TheVariants.{Reply as Replied}
+use Rattle.shell_runs.specs.mount_core.Answers.{OnReply}
+use Rattle.shell_runs.specs.mount_core.Showing.{is_reader, IsReplyTo as IsFormOf}
+use Rattle.tree_copy.specs.copy_laws.Questions.{IsReplyTo}
 
 true_is_false : true ≡ false → ⊥
 true_is_false e = cc

@@ -2,5 +2,5 @@ pub mod Formed
 pub mod Serving
 pub mod Files
 -- Handed on to crates above, which name their lemmas so and needn't list them.
-pub use Rattle.file_copies.proofs.copy_sessions_lemmas as copy_sessions_lemmas
-pub use Rattle.file_copies.proofs as file_copies_lemmas
+pub use Rattle.copy_file.proofs.copy_sessions_lemmas as copy_sessions_lemmas
+pub use Rattle.copy_file.proofs as copy_file_lemmas

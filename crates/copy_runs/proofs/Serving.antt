@@ -4,37 +4,37 @@ use Rattle.std.specs.Prelude.{Result}
 use Rattle.std.specs.declared.option.Option.{Option}
 use Rattle.std.specs.declared.option.Option.TheVariants.{Some}
 use Rattle.std.specs.declared.result.Result.TheVariants.{Ok, Err}
-use Rattle.file_copies.specs.answers.declared.answer.Answer.{Answer}
-use Rattle.file_copies.specs.answers.declared.answer.Answer.TheVariants as answer
-use Rattle.file_copies.specs.answers.Sessions.{Exchange}
-use Rattle.file_copies.specs.answers.Hosts.{Ran}
+use Rattle.copy_file.specs.answers.declared.answer.Answer.{Answer}
+use Rattle.copy_file.specs.answers.declared.answer.Answer.TheVariants as answer
+use Rattle.copy_file.specs.answers.Sessions.{Exchange}
+use Rattle.copy_file.specs.answers.Hosts.{Ran}
 use Rattle.fs_model.specs.Instant.{Instant}
-use Rattle.file_copies.specs.line_io.Streams.{Stream}
+use Rattle.copy_file.specs.line_io.Streams.{Stream}
 use Rattle.outside.specs.Trace.{Call}
 use Rattle.outside.specs.declared.keeper.Keeper.{Ghosts as KeeperGhosts}
 use Rattle.rand_core.specs.Stream.{Stream as Chance}
-use Rattle.shell_sessions.specs.mount.Mounts.{IsReady}
-use Rattle.shell_sessions.specs.run_edges.Statuses.{session_status, IsOwn}
+use Rattle.shell_runs.specs.mount.Mounts.{IsReady}
+use Rattle.shell_runs.specs.run_frame.Statuses.{session_status, IsOwn}
 use Rattle.run_status.specs.Statuses.{first_of}
 use Rattle.run_status.specs.declared.ended.Ended.{Ended}
 use Rattle.run_status.specs.declared.status.Status.{Status}
-use Rattle.file_copies.specs.session_lines.declared.end.End.{End}
-use Rattle.shell_sessions.specs.session_runs.Openings.{HasPassword}
-use Rattle.shell_sessions.specs.session_runs.Runs.{outside_of, IsSessionRun}
-use Rattle.shell_sessions.specs.session_runs.Turns.{Begun, Closing}
-use Rattle.shell_sessions.proofs.session_runs_lemmas.Drawing.{undrawing}
-use Rattle.shell_sessions.proofs.session_runs_lemmas.Whole.{whole}
-use Rattle.shell_sessions.specs.session_saver.declared.saver.SyncError.{SyncError}
-use Rattle.shell_sessions.specs.declared.mounted.Mounted.{Mounted}
-use Rattle.shell_sessions.specs.Mounting.{mounted_hosting}
-use Rattle.shell_sessions.specs.Sessions.{Session, WasServed}
-use Rattle.shell_sessions.specs.mount_core.Showing.{ShowsFiles}
-use Rattle.tree_copy.specs.copy_rules.declared.copied.Totals.{Totals}
-use Rattle.tree_copy.specs.copy_rules.declared.copied.CopyFail.{CopyFail}
-use Rattle.tree_copy.specs.copy_rules.declared.copied.CopyFail.TheVariants as fail
-use Rattle.file_copies.specs.copy_sessions.declared.way.Way.{Way}
-use Rattle.file_copies.specs.copy_sessions.Coming.{IsCopyTold}
-use Rattle.file_copies.specs.copy_sessions.Statuses.{copy_status, stopped_status}
+use Rattle.copy_file.specs.session_lines.declared.end.End.{End}
+use Rattle.shell_runs.specs.session_laws.Openings.{HasPassword}
+use Rattle.shell_runs.specs.session_laws.Runs.{outside_of, IsSessionRun}
+use Rattle.shell_runs.specs.session_laws.Turns.{Begun, Closing}
+use Rattle.shell_runs.proofs.session_laws_lemmas.Drawing.{undrawing}
+use Rattle.shell_runs.proofs.session_laws_lemmas.Whole.{whole}
+use Rattle.shell_runs.specs.record_saver.declared.saver.SyncError.{SyncError}
+use Rattle.shell_runs.specs.declared.mounted.Mounted.{Mounted}
+use Rattle.shell_runs.specs.Mounting.{mounted_hosting}
+use Rattle.shell_runs.specs.Sessions.{Session, WasServed}
+use Rattle.shell_runs.specs.mount_core.Showing.{ShowsFiles}
+use Rattle.tree_copy.specs.copy_laws.declared.copied.Totals.{Totals}
+use Rattle.tree_copy.specs.copy_laws.declared.copied.CopyFail.{CopyFail}
+use Rattle.tree_copy.specs.copy_laws.declared.copied.CopyFail.TheVariants as fail
+use Rattle.copy_file.specs.copy_sessions.declared.way.Way.{Way}
+use Rattle.copy_file.specs.copy_sessions.Coming.{IsCopyTold}
+use Rattle.copy_file.specs.copy_sessions.Statuses.{copy_status, stopped_status}
 
 pub mild_stop : (kept : Option Answer) → IsOwn (stopped_status kept)
 mild_stop (Some answer.Memory) = tt

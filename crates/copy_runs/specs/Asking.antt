@@ -5,11 +5,11 @@ use Rattle.std.specs.declared.option.Option.TheVariants.{None}
 use Rattle.outside.specs.Trace.{Call}
 use Rattle.outside.specs.declared.keeper.Keeper.{Ghosts as KeeperGhosts}
 use Rattle.rand_core.specs.Stream.{Stream}
-use Rattle.shell_sessions.specs.mount.Mounts.{IsReady}
-use Rattle.shell_sessions.specs.Mounting.{mounted_hosting}
-use Rattle.tree_copy.specs.copy_rules.Questions.{Asking, LawfulAsker}
-use Rattle.file_copies.specs.copy_sessions.Hosted.{host_asking}
-use Rattle.file_copies.specs.copy_sessions.HostedLaws.{host_lawful}
+use Rattle.shell_runs.specs.mount.Mounts.{IsReady}
+use Rattle.shell_runs.specs.Mounting.{mounted_hosting}
+use Rattle.tree_copy.specs.copy_laws.Questions.{Asking, LawfulAsker}
+use Rattle.copy_file.specs.copy_sessions.Hosted.{host_asking}
+use Rattle.copy_file.specs.copy_sessions.HostedLaws.{host_lawful}
 use Rattle.copy_runs.specs.declared.asker.MountAsker.{MountAsker}
 
 abbrev pub mount_asking : {V : Type 0} → {K : Type 0} → {R : Type 0} → (R → Stream) → (V → Option (List Call)) → (V → ℕ) → KeeperGhosts K → Asking (MountAsker V K R)

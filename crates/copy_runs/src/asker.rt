@@ -1,14 +1,14 @@
 // A mount answers the commands of a copy.
 ghost use Rattle.copy_runs.specs.Asking.{mount_asking, mount_lawful};
 
-use file_copies::answers::{Answer, Host};
-use file_copies::copy_sessions::{ask_host, reply_of};
+use copy_file::answers::{Answer, Host};
+use copy_file::copy_sessions::{ask_host, reply_of};
 use fs_model::{Command, Moment, Reply};
 use outside::{Keeper, Vault};
 use rand_core::Rng;
-use shell_sessions::Mounted;
+use shell_runs::Mounted;
 use std::alloc::Global;
-use tree_copy::copy_rules::{Asker, Stopped};
+use tree_copy::copy_laws::{Asker, Stopped};
 
 /// An opened file system that answers the commands of a copy at one moment. The last answer that is no reply is kept, and
 /// such answers are counted.

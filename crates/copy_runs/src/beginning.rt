@@ -1,13 +1,13 @@
 // What a copy whose end is told begins with.
 ghost use Rattle.std.specs.Prelude.{◌≤◌, List, ℕ, IfOk, IfErr};
-ghost use Rattle.file_copies.specs.line_io.Streams.{stream_of};
-ghost use Rattle.shell_sessions.specs.passwords.Passwords.{PasswordRead, PasswordUnread};
+ghost use Rattle.copy_file.specs.line_io.Streams.{stream_of};
+ghost use Rattle.shell_runs.specs.run_frame.Passwords.{PasswordRead, PasswordUnread};
 
-use file_copies::copy_sessions::CopyText;
-use file_copies::line_io::LineReader;
+use copy_file::copy_sessions::CopyText;
+use copy_file::line_io::LineReader;
 use outside::Source;
 use run_status::Status;
-use shell_sessions::run_edges::{Beginning, begin};
+use shell_runs::run_frame::{Beginning, begin};
 use std::alloc::Global;
 
 /// The password, the reader that has taken its line, and the memory for the text of the end.

@@ -1,27 +1,27 @@
 // A file that is got under the password line of the input.
 ghost use Rattle.std.specs.Prelude.{◌≡◌, ◌≤◌, List};
-ghost use Rattle.file_copies.specs.line_io.Streams.{stream_of, Stream};
-ghost use Rattle.file_copies.specs.answers.Hosts.{Ran};
-ghost use Rattle.file_copies.specs.answers.Sessions.{Exchange};
-ghost use Rattle.file_copies.specs.session_lines.Driven.{IsUnfailed};
-ghost use Rattle.shell_sessions.specs.mount.Mounts.{IsReady};
-ghost use Rattle.shell_sessions.specs.run_edges.Statuses.{IsOwn};
-ghost use Rattle.shell_sessions.specs.session_runs.Drawing.{DrawsVectors};
-ghost use Rattle.shell_sessions.specs.session_runs.Runs.{outside_of};
-ghost use Rattle.shell_sessions.specs.Mounting.{mounted_hosting};
-ghost use Rattle.shell_sessions.specs.Sessions.{Session};
-ghost use Rattle.file_copies.specs.Coming.{ComesGet, IsGetSession};
+ghost use Rattle.copy_file.specs.line_io.Streams.{stream_of, Stream};
+ghost use Rattle.copy_file.specs.answers.Hosts.{Ran};
+ghost use Rattle.copy_file.specs.answers.Sessions.{Exchange};
+ghost use Rattle.copy_file.specs.session_lines.Driven.{IsUnfailed};
+ghost use Rattle.shell_runs.specs.mount.Mounts.{IsReady};
+ghost use Rattle.shell_runs.specs.run_frame.Statuses.{IsOwn};
+ghost use Rattle.shell_runs.specs.session_laws.Drawing.{DrawsVectors};
+ghost use Rattle.shell_runs.specs.session_laws.Runs.{outside_of};
+ghost use Rattle.shell_runs.specs.Mounting.{mounted_hosting};
+ghost use Rattle.shell_runs.specs.Sessions.{Session};
+ghost use Rattle.copy_file.specs.Coming.{ComesGet, IsGetSession};
 ghost use Rattle.copy_runs.specs.Asking.{IsFresh};
 
 use crate::asker::MountAsker;
-use file_copies::session_lines::End;
-use file_copies::{get_end, get_file};
+use copy_file::session_lines::End;
+use copy_file::{get_end, get_file};
 use fs_model::{Moment, Path};
 use outside::{Keeper, Sink, Source, Vault};
 use rand_core::Rng;
 use run_status::{Ended, Status, Storage};
-use shell_sessions::run_edges::{Beginning, begin};
-use shell_sessions::{Mounted, close, open};
+use shell_runs::run_frame::{Beginning, begin};
+use shell_runs::{Mounted, close, open};
 use std::alloc::Global;
 
 /// Writes the bytes of the file at this path, and says how that ended.

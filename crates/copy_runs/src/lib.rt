@@ -16,7 +16,7 @@ pub use get::run_get;
 pub use import::run_import;
 pub use put::run_put;
 pub use request::CopyRequest;
-pub use shell_sessions::{run_command, run_generate, run_shell};
+pub use shell_runs::{run_command, run_generate, run_shell};
 
 // Handed on to crates above, which needn't list them.
 pub use tree_copy::host_folder;

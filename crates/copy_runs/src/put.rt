@@ -1,30 +1,30 @@
 // A file that is put under the password line of the input.
 ghost use Rattle.std.specs.Prelude.{◌≡◌, ◌≤◌, true, List};
 ghost use Rattle.outside.specs.Streams.{Ends};
-ghost use Rattle.file_copies.specs.line_io.Reading.{coming};
-ghost use Rattle.file_copies.specs.line_io.Streams.{stream_of};
-ghost use Rattle.file_copies.specs.answers.Hosts.{Ran};
-ghost use Rattle.file_copies.specs.answers.Sessions.{Exchange};
-ghost use Rattle.shell_sessions.specs.mount.Mounts.{IsReady};
-ghost use Rattle.shell_sessions.specs.run_edges.Statuses.{IsOwn};
-ghost use Rattle.shell_sessions.specs.session_runs.Drawing.{DrawsVectors};
-ghost use Rattle.shell_sessions.specs.session_runs.Runs.{outside_of};
-ghost use Rattle.shell_sessions.specs.Mounting.{mounted_hosting};
-ghost use Rattle.shell_sessions.specs.Sessions.{Session};
-ghost use Rattle.file_copies.specs.Coming.{ComesPut, IsPutSession};
+ghost use Rattle.copy_file.specs.line_io.Reading.{coming};
+ghost use Rattle.copy_file.specs.line_io.Streams.{stream_of};
+ghost use Rattle.copy_file.specs.answers.Hosts.{Ran};
+ghost use Rattle.copy_file.specs.answers.Sessions.{Exchange};
+ghost use Rattle.shell_runs.specs.mount.Mounts.{IsReady};
+ghost use Rattle.shell_runs.specs.run_frame.Statuses.{IsOwn};
+ghost use Rattle.shell_runs.specs.session_laws.Drawing.{DrawsVectors};
+ghost use Rattle.shell_runs.specs.session_laws.Runs.{outside_of};
+ghost use Rattle.shell_runs.specs.Mounting.{mounted_hosting};
+ghost use Rattle.shell_runs.specs.Sessions.{Session};
+ghost use Rattle.copy_file.specs.Coming.{ComesPut, IsPutSession};
 ghost use Rattle.copy_runs.specs.Asking.{IsFresh};
 
 use crate::asker::MountAsker;
 use crate::beginning::{CopyBeginning, begin_copy};
-use file_copies::copy_sessions::CopyText;
-use file_copies::line_io::LineReader;
-use file_copies::session_lines::End;
-use file_copies::{put_file, tell_put};
+use copy_file::copy_sessions::CopyText;
+use copy_file::line_io::LineReader;
+use copy_file::session_lines::End;
+use copy_file::{put_file, tell_put};
 use fs_model::{Moment, Path};
 use outside::{Keeper, Sink, Source, Vault};
 use rand_core::Rng;
 use run_status::{Ended, Status, Storage};
-use shell_sessions::{Mounted, close, open};
+use shell_runs::{Mounted, close, open};
 use std::alloc::Global;
 
 /// Puts the bytes of the input into a new file at this path, and prints how that ended.

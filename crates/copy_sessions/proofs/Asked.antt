@@ -10,7 +10,7 @@ use Rattle.session_lines.specs.answers.declared.answer.Answer.{Answer}
 use Rattle.session_lines.specs.answers.declared.answer.Answer.TheVariants.{Reply as Replied, Memory, Spent, FaultDirectory, FaultState, Violation, Refused}
 use Rattle.session_lines.specs.answers.Hosts.{Hosting}
 use Rattle.session_lines.specs.answers.Summaries.{is_other}
-use Rattle.copy_rules.specs.declared.asker.Stopped.{Stopped}
+use Rattle.copy_laws.specs.declared.asker.Stopped.{Stopped}
 use Rattle.copy_sessions.specs.Fitting.{kept_by, WentBy}
 use Rattle.copy_sessions.proofs.Following.{true_is_false}
 

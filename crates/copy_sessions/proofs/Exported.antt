@@ -13,12 +13,12 @@ use Rattle.session_lines.specs.declared.end.End.{End}
 use Rattle.outside.specs.Causes.{RoseBy}
 use Rattle.run_status.specs.declared.status.Status.{Status}
 use Rattle.run_status.specs.declared.status.Status.TheVariants.{HostFault}
-use Rattle.copy_rules.specs.host_folder.Folders.{HostPath, HostTree}
-use Rattle.copy_rules.specs.declared.copied.Totals.{Totals}
-use Rattle.copy_rules.specs.declared.copied.CopyFail.{CopyFail}
-use Rattle.copy_rules.specs.Ends.{HostCause}
-use Rattle.copy_rules.specs.Exporting.{IsExport}
-use Rattle.copy_rules.specs.Questions.{Question}
+use Rattle.copy_laws.specs.host_folder.Folders.{HostPath, HostTree}
+use Rattle.copy_laws.specs.declared.copied.Totals.{Totals}
+use Rattle.copy_laws.specs.declared.copied.CopyFail.{CopyFail}
+use Rattle.copy_laws.specs.Ends.{HostCause}
+use Rattle.copy_laws.specs.Exporting.{IsExport}
+use Rattle.copy_laws.specs.Questions.{Question}
 use Rattle.copy_sessions.specs.declared.way.Way.TheVariants.{Out}
 use Rattle.copy_sessions.specs.Coming.{IsCopyTold, IsExportSession}
 use Rattle.copy_sessions.specs.Fitting.{WentBy, kept_after}

@@ -14,14 +14,14 @@ use Rattle.outside.specs.Causes.{RoseBy}
 use Rattle.run_status.specs.declared.status.Status.{Status}
 use Rattle.run_status.specs.declared.status.Status.TheVariants as status
 use Rattle.session_lines.specs.declared.end.End.{End}
-use Rattle.copy_rules.specs.declared.asker.Stopped.{Stopped}
-use Rattle.copy_rules.specs.declared.copied.CopyFail.{CopyFail}
-use Rattle.copy_rules.specs.declared.copied.CopyFail.TheVariants as fail
-use Rattle.copy_rules.specs.declared.copied.Totals.{Totals}
-use Rattle.copy_rules.specs.Ends.{HostCause, EndsBy}
-use Rattle.copy_rules.specs.Exporting.{IsExport, IsIdleBy, EndsOut}
-use Rattle.copy_rules.specs.Questions.{Question}
-use Rattle.copy_rules.specs.host_folder.Folders.{HostPath, HostTree}
+use Rattle.copy_laws.specs.declared.asker.Stopped.{Stopped}
+use Rattle.copy_laws.specs.declared.copied.CopyFail.{CopyFail}
+use Rattle.copy_laws.specs.declared.copied.CopyFail.TheVariants as fail
+use Rattle.copy_laws.specs.declared.copied.Totals.{Totals}
+use Rattle.copy_laws.specs.Ends.{HostCause, EndsBy}
+use Rattle.copy_laws.specs.Exporting.{IsExport, IsIdleBy, EndsOut}
+use Rattle.copy_laws.specs.Questions.{Question}
+use Rattle.copy_laws.specs.host_folder.Folders.{HostPath, HostTree}
 use Rattle.copy_sessions.specs.declared.way.Way.{Way}
 use Rattle.copy_sessions.specs.declared.way.Way.TheVariants.{In, Out}
 use Rattle.copy_sessions.specs.Coming.{IsTold, IsCopyTold}

@@ -10,10 +10,10 @@ use Rattle.session_lines.specs.answers.declared.answer.Answer.{Answer}
 use Rattle.session_lines.specs.answers.declared.answer.Answer.TheVariants.{Reply as Replied, Memory, Spent, FaultDirectory, FaultState, Violation, Refused}
 use Rattle.session_lines.specs.answers.Sessions.{Follows, Next, latest, violated}
 use Rattle.session_lines.specs.answers.Summaries.{is_other}
-use Rattle.copy_rules.specs.declared.asker.Stopped.{Stopped}
-use Rattle.copy_rules.specs.Questions.{Question, Answered, Followed}
-use Rattle.copy_rules.proofs.Copying.{done_merges, import_same}
-use Rattle.copy_rules.proofs.Exported.{export_same, export_part}
+use Rattle.copy_laws.specs.declared.asker.Stopped.{Stopped}
+use Rattle.copy_laws.specs.Questions.{Question, Answered, Followed}
+use Rattle.copy_laws.proofs.Copying.{done_merges, import_same}
+use Rattle.copy_laws.proofs.Exported.{export_same, export_part}
 use Rattle.copy_sessions.specs.Fitting.{WentAs}
 use Rattle.copy_sessions.specs.Laws.{CopyFollows, ExportLeaves, ExportLeavesPart, ImportLeaves}
 

@@ -10,13 +10,13 @@ use Rattle.session_lines.specs.line_io.Streams.{Stream}
 use Rattle.session_lines.specs.Driven.{IsUnfailed, Reported}
 use Rattle.session_lines.specs.declared.end.End.{End}
 use Rattle.run_status.specs.declared.status.Status.{Status}
-use Rattle.copy_rules.specs.host_folder.Folders.{HostPath, HostTree}
-use Rattle.copy_rules.specs.declared.copied.Totals.{Totals}
-use Rattle.copy_rules.specs.declared.copied.CopyFail.{CopyFail}
-use Rattle.copy_rules.specs.declared.copied.CopyFail.TheVariants as fail
-use Rattle.copy_rules.specs.Ends.{IsImport, HostCause}
-use Rattle.copy_rules.specs.Exporting.{IsExport}
-use Rattle.copy_rules.specs.Questions.{Question}
+use Rattle.copy_laws.specs.host_folder.Folders.{HostPath, HostTree}
+use Rattle.copy_laws.specs.declared.copied.Totals.{Totals}
+use Rattle.copy_laws.specs.declared.copied.CopyFail.{CopyFail}
+use Rattle.copy_laws.specs.declared.copied.CopyFail.TheVariants as fail
+use Rattle.copy_laws.specs.Ends.{IsImport, HostCause}
+use Rattle.copy_laws.specs.Exporting.{IsExport}
+use Rattle.copy_laws.specs.Questions.{Question}
 use Rattle.copy_sessions.specs.declared.way.Way.{Way}
 use Rattle.copy_sessions.specs.declared.way.Way.TheVariants.{In, Out}
 use Rattle.copy_sessions.specs.declared.text.TheConstants.{LONG_TEXT}

@@ -11,8 +11,8 @@ use Rattle.session_lines.specs.answers.declared.answer.Answer.TheVariants.{Reply
 use Rattle.session_lines.specs.answers.Hosts.{Hosting, Ran}
 use Rattle.session_lines.specs.answers.Sessions.{Exchange}
 use Rattle.session_lines.specs.answers.Summaries.{is_other}
-use Rattle.copy_rules.specs.declared.asker.Stopped.{Stopped}
-use Rattle.copy_rules.specs.Questions.{Question}
+use Rattle.copy_laws.specs.declared.asker.Stopped.{Stopped}
+use Rattle.copy_laws.specs.Questions.{Question}
 
 -- the reply that an answer is, or the answer, which is none
 abbrev pub ReplyOf : Answer → Result Reply Answer → Type 0

@@ -4,7 +4,7 @@ use Rattle.std.specs.declared.option.Option.{Option}
 use Rattle.fs_model.specs.Instant.{Instant}
 use Rattle.session_lines.specs.answers.declared.answer.Answer.{Answer}
 use Rattle.session_lines.specs.answers.Hosts.{Hosting}
-use Rattle.copy_rules.specs.Questions.{Asking}
+use Rattle.copy_laws.specs.Questions.{Asking}
 use Rattle.copy_sessions.specs.Fitting.{WentBy}
 
 abbrev pub host_asking : {A : Type 0} → {H : Type 0} → Hosting H → (A → H) → (A → Instant) → (A → Option Answer) → (A → ℕ) → Asking A

@@ -5,7 +5,7 @@ use Rattle.fs_model.specs.Instant.{Instant}
 use Rattle.session_lines.specs.answers.declared.answer.Answer.{Answer}
 use Rattle.session_lines.specs.answers.Hosts.{Hosting, Ran}
 use Rattle.session_lines.specs.answers.Sessions.{Exchange}
-use Rattle.copy_rules.specs.Questions.{Question, LawfulAsker}
+use Rattle.copy_laws.specs.Questions.{Question, LawfulAsker}
 use Rattle.copy_sessions.specs.Fitting.{Fits, kept_by, kept_after, WentBy}
 use Rattle.copy_sessions.specs.Hosted.{host_asking}
 

@@ -14,16 +14,16 @@ use Rattle.outside.specs.Causes.{RoseBy}
 use Rattle.run_status.specs.declared.status.Status.{Status}
 use Rattle.run_status.specs.declared.status.Status.TheVariants as status
 use Rattle.session_lines.specs.declared.end.End.{End}
-use Rattle.copy_rules.specs.host_folder.Folders.{HostPath, HostTree}
-use Rattle.copy_rules.specs.declared.copied.CopyFail.{CopyFail}
-use Rattle.copy_rules.specs.declared.copied.CopyFail.TheVariants as fail
-use Rattle.copy_rules.specs.declared.copied.Totals.{Totals}
-use Rattle.copy_rules.specs.Ends.{IsImport}
-use Rattle.copy_rules.specs.ExportLaws.{IsCopyOf, IsPartBelow}
-use Rattle.copy_rules.specs.Exporting.{IsBegun, IsExport, OnTold}
-use Rattle.copy_rules.specs.Importing.{Merged}
-use Rattle.copy_rules.specs.Laws.{SameBelow, IsFree}
-use Rattle.copy_rules.specs.Questions.{Question, Followed}
+use Rattle.copy_laws.specs.host_folder.Folders.{HostPath, HostTree}
+use Rattle.copy_laws.specs.declared.copied.CopyFail.{CopyFail}
+use Rattle.copy_laws.specs.declared.copied.CopyFail.TheVariants as fail
+use Rattle.copy_laws.specs.declared.copied.Totals.{Totals}
+use Rattle.copy_laws.specs.Ends.{IsImport}
+use Rattle.copy_laws.specs.ExportLaws.{IsCopyOf, IsPartBelow}
+use Rattle.copy_laws.specs.Exporting.{IsBegun, IsExport, OnTold}
+use Rattle.copy_laws.specs.Importing.{Merged}
+use Rattle.copy_laws.specs.Laws.{SameBelow, IsFree}
+use Rattle.copy_laws.specs.Questions.{Question, Followed}
 use Rattle.copy_sessions.specs.Coming.{IsImportSession, IsExportSession}
 use Rattle.copy_sessions.specs.Fitting.{Fits, kept_after}
 

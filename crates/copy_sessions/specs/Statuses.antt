@@ -5,9 +5,9 @@ use Rattle.std.specs.declared.result.Result.{Result}
 use Rattle.std.specs.declared.result.Result.TheVariants.{Ok, Err}
 use Rattle.session_lines.specs.answers.declared.answer.Answer.{Answer}
 use Rattle.session_lines.specs.answers.declared.answer.Answer.TheVariants as answer
-use Rattle.copy_rules.specs.declared.copied.Totals.{Totals}
-use Rattle.copy_rules.specs.declared.copied.CopyFail.{CopyFail}
-use Rattle.copy_rules.specs.declared.copied.CopyFail.TheVariants as fail
+use Rattle.copy_laws.specs.declared.copied.Totals.{Totals}
+use Rattle.copy_laws.specs.declared.copied.CopyFail.{CopyFail}
+use Rattle.copy_laws.specs.declared.copied.CopyFail.TheVariants as fail
 use Rattle.run_status.specs.declared.status.Status.{Status}
 use Rattle.run_status.specs.declared.status.Status.TheVariants as status
 

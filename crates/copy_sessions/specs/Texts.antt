@@ -8,13 +8,13 @@ use Rattle.std.specs.declared.result.Result.{Result}
 use Rattle.std.specs.declared.result.Result.TheVariants.{Ok, Err}
 use Rattle.fs_model.specs.declared.error.FsError.{FsError}
 use Rattle.fs_model.specs.declared.error.FsError.TheVariants.{NameTooLong}
-use Rattle.copy_rules.specs.host_folder.Folders.{HostPath}
+use Rattle.copy_laws.specs.host_folder.Folders.{HostPath}
 use Rattle.session_lines.specs.script_text.Texts.{line, word, escaped, error_name}
 use Rattle.session_lines.specs.answers.declared.answer.Answer.{Answer}
 use Rattle.session_lines.specs.answers.Texts.{text_of_answer}
-use Rattle.copy_rules.specs.declared.copied.Totals.{Totals}
-use Rattle.copy_rules.specs.declared.copied.CopyFail.{CopyFail}
-use Rattle.copy_rules.specs.declared.copied.CopyFail.TheVariants as fail
+use Rattle.copy_laws.specs.declared.copied.Totals.{Totals}
+use Rattle.copy_laws.specs.declared.copied.CopyFail.{CopyFail}
+use Rattle.copy_laws.specs.declared.copied.CopyFail.TheVariants as fail
 use Rattle.copy_sessions.specs.declared.way.Way.{Way}
 use Rattle.copy_sessions.specs.declared.way.Way.TheVariants.{In, Out}
 

@@ -9,7 +9,7 @@ ghost use Rattle.copy_sessions.specs.Texts.{counts_text, copy_text, error_text, 
 use crate::escapes::push_escaped;
 use crate::way::Way;
 use block_id::Memory;
-use copy_rules::{CopyFail, Totals};
+use copy_laws::{CopyFail, Totals};
 use fs_model::{FsError, Name, Path};
 use session_lines::answers::{Answer, print_answer};
 use session_lines::script_text::{push_bytes, push_decimal};

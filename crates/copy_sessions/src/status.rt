@@ -2,7 +2,7 @@
 ghost use Rattle.std.specs.Prelude.{◌≡◌};
 ghost use Rattle.copy_sessions.specs.Statuses.{copy_status, stopped_status};
 
-use copy_rules::{CopyFail, Totals};
+use copy_laws::{CopyFail, Totals};
 use run_status::Status;
 use session_lines::answers::Answer;
 

@@ -7,7 +7,7 @@ use crate::status::copy_status;
 use crate::text::CopyText;
 use crate::way::Way;
 use block_id::Failed;
-use copy_rules::{CopyFail, Totals};
+use copy_laws::{CopyFail, Totals};
 use outside::Sink;
 use run_status::Status;
 use session_lines::End;

@@ -6,7 +6,7 @@ ghost use Rattle.copy_sessions.specs.Texts.{copy_text};
 use crate::print::push_copy;
 use crate::way::Way;
 use block_id::Memory;
-use copy_rules::{CopyFail, Totals};
+use copy_laws::{CopyFail, Totals};
 use session_lines::answers::Answer;
 use std::alloc::Global;
 use std::marker::Model;

@@ -3,7 +3,7 @@ use Rattle.std.specs.Prelude.{◌≡◌, ℕ}
 use Rattle.std.proofs.Common.{sym, ◌∙◌}
 use Rattle.fs_model.specs.Instant.{Instant}
 use Rattle.fs_model.specs.Tree.{Tree}
-use Rattle.tree_copy.specs.copy_rules.Questions.{Asking, LawfulAsker}
+use Rattle.tree_copy.specs.copy_laws.Questions.{Asking, LawfulAsker}
 
 abbrev pub asking_of : {A : Type 0} → (A → Tree) → (A → Instant) → (A → ℕ) → Asking A
 asking_of tree moment stops = record {

@@ -1,8 +1,8 @@
 // How copies end, in the words of stories.
-use file_copies::row_copy::Stop;
+use copy_file::copy_row::Stop;
 use fs_model::FsError;
 use std::alloc::{AllocError, Global};
-use tree_copy::copy_rules::{CopyFail, Totals};
+use tree_copy::copy_laws::{CopyFail, Totals};
 
 /// An error that a copy meets here.
 fn word_of(error: FsError) -> &'static str {

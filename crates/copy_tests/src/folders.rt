@@ -1,7 +1,6 @@
 // What a story makes in a folder, and looks for there.
 use crate::inputs::{bytes_of, list_of, number, parted};
-use folder_samples::{Row, appends, fills_small, has_rows, holds, leads, makes};
-use memory_folder::MemoryFolder;
+use memory_host_folder::{MemoryFolder, Row, appends, fills_small, has_rows, holds, leads, makes};
 use std::alloc::Global;
 use std::test::Fail;
 

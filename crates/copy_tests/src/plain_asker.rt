@@ -3,14 +3,14 @@ ghost use Rattle.std.specs.Prelude.{◌≡◌, ◌≤◌, ℕ, [], ◌∷◌, tr
 ghost use Rattle.fs_model.specs.Fitting.{IsFitting};
 ghost use Rattle.fs_model.specs.Step.{step};
 ghost use Rattle.fs_model.specs.Tree.{Tree};
-ghost use Rattle.tree_copy.specs.copy_rules.Questions.{IsReplyTo, StopsOnce};
+ghost use Rattle.tree_copy.specs.copy_laws.Questions.{IsReplyTo, StopsOnce};
 ghost use Rattle.copy_tests.specs.Plain.{asking_of, lawful_of};
 
 use block_id::Memory;
 use fs_model::{Command, Moment, Reply};
 use plain_tree::PlainTree;
 use std::alloc::Global;
-use tree_copy::copy_rules::{Asker, Stopped};
+use tree_copy::copy_laws::{Asker, Stopped};
 
 /// A tree in memory, at a moment.
 #[derive(Drop)]

@@ -3,14 +3,14 @@ use crate::endings::{put_end, stop_word};
 use crate::inputs::{bytes_of, list_of, number};
 use crate::plain_asker::PlainAsker;
 use crate::trees::path_of;
-use file_copies::line_io::LineReader;
-use file_copies::row_copy::Stop;
-use file_copies::{get_file, put_file};
+use copy_file::copy_row::Stop;
+use copy_file::line_io::LineReader;
+use copy_file::{get_file, put_file};
 use fs_model::{Command, Path, Reply};
 use memory_outside::{MemorySink, MemorySource};
 use std::alloc::Global;
 use std::test::Fail;
-use tree_copy::copy_rules::Totals;
+use tree_copy::copy_laws::Totals;
 
 /// Puts what follows the first line of the input.
 fn put_behind_line(

@@ -5,7 +5,7 @@ use crate::plain_asker::PlainAsker;
 use crate::singles::on_file;
 use crate::systems::change_system;
 use crate::trees::{empty_tree, on_tree};
-use memory_folder::MemoryFolder;
+use memory_host_folder::MemoryFolder;
 use std::alloc::Global;
 use std::test::Fail;
 use test_systems::{System, nothing, play_beside};

@@ -2,14 +2,13 @@
 use crate::endings::folder_end;
 use crate::inputs::{bytes_of, number, parted};
 use crate::plain_asker::PlainAsker;
-use folder_samples::host_folder::Folder;
-use folder_samples::path;
 use fs_model::{Command, Moment, Path, Reply};
-use memory_folder::MemoryFolder;
+use memory_host_folder::host_folder::Folder;
+use memory_host_folder::{MemoryFolder, path};
 use plain_tree::PlainTree;
 use std::alloc::Global;
 use std::test::Fail;
-use tree_copy::copy_rules::{CopyFail, Totals};
+use tree_copy::copy_laws::{CopyFail, Totals};
 use tree_copy::{export, import};
 
 /// An empty tree, at the moment 100.000000005.

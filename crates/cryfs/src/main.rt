@@ -3,7 +3,7 @@
 
 use call_log::{ByteLog, CallLog};
 use program_run::program_inputs::Inputs;
-use program_run::real_streams::{ReaderSource, WriterSink};
+use program_run::real_outside::{ReaderSource, WriterSink};
 use program_run::run_program;
 use run_status::{Status, Storage};
 use std::io;

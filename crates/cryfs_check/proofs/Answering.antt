@@ -3,20 +3,20 @@ use Rattle.std.proofs.Common.{◌≡◌, ℕ, List, length, sym, ◌∙◌, ap, 
 use Rattle.std.specs.Prelude.{Some, Ok, Err, IfOk, map, is_some, T}
 use Rattle.std.specs.FinMap.{is_sorted}
 use Rattle.block_id.specs.declared.id.BlockId.{BlockId}
-use Rattle.check_rules.specs.outcome.Meanings.{Meanings, Lawful}
-use Rattle.check_rules.specs.outcome.Outcome.{Outcome, first_, passed}
+use Rattle.check_rules.specs.store_outcome.Meanings.{Meanings, Lawful}
+use Rattle.check_rules.specs.store_outcome.Outcome.{Outcome, first_, passed}
 use Rattle.check_rules.specs.data_tree.Trees.{NoDoubles}
 use Rattle.check_rules.specs.store_api.Content.{Id, Content, id_cmp}
 use Rattle.check_rules.specs.store_api.Holdings.{Holdings, Steady, has_id}
 use Rattle.check_rules.specs.store_api.Loads.{LoadAnswer}
-use Rattle.check_rules.specs.block_walk.declared.flaw.Flaw.{Flaw}
-use Rattle.check_rules.specs.block_walk.declared.flaw.Flaw.TheVariants.{Unowned}
-use Rattle.check_rules.specs.block_walk.declared.flaw.Halt.{Halt}
-use Rattle.check_rules.specs.block_walk.declared.flaw.Halt.TheVariants.{Found, Failing}
-use Rattle.check_rules.specs.block_walk.Given.{Asked, AskedBy, IsLoad, given_of, content_of, fail_of}
-use Rattle.check_rules.specs.block_walk.Marks.{MarkList, unmarked, first_unowned}
-use Rattle.check_rules.proofs.block_walk_lemmas.Halting.{asked_of, gave-asked, asked-ids, asked-again}
-use Rattle.check_rules.proofs.block_walk_lemmas.Loading.{asked_true, asked_by}
+use Rattle.check_rules.specs.check_walk.declared.flaw.Flaw.{Flaw}
+use Rattle.check_rules.specs.check_walk.declared.flaw.Flaw.TheVariants.{Unowned}
+use Rattle.check_rules.specs.check_walk.declared.flaw.Halt.{Halt}
+use Rattle.check_rules.specs.check_walk.declared.flaw.Halt.TheVariants.{Found, Failing}
+use Rattle.check_rules.specs.check_walk.Given.{Asked, AskedBy, IsLoad, given_of, content_of, fail_of}
+use Rattle.check_rules.specs.check_walk.Marks.{MarkList, unmarked, first_unowned}
+use Rattle.check_rules.proofs.check_walk_lemmas.Halting.{asked_of, gave-asked, asked-ids, asked-again}
+use Rattle.check_rules.proofs.check_walk_lemmas.Loading.{asked_true, asked_by}
 use Rattle.check_rules.specs.Flaws.{HasFlaw, HasUnowned}
 use Rattle.check_rules.proofs.Refuting.{refutes}
 use Rattle.cryfs_check.specs.declared.checking.Checked.TheVariants.{No}

@@ -4,13 +4,13 @@ use Rattle.std.specs.Prelude.{not}
 use Rattle.std.specs.Str.{bytes_eq}
 use Rattle.std.proofs.lemmas.List.{take_all}
 use Rattle.std.proofs.lemmas.Slice.Eq.{bytes_eq-Decides}
-use Rattle.check_rules.specs.block_walk.declared.flaw.Flaw.{Flaw}
-use Rattle.check_rules.specs.block_walk.declared.flaw.Halt.{Halt}
-use Rattle.check_rules.specs.block_walk.Fronts.{FrontState, joined_front}
-use Rattle.check_rules.specs.block_walk.Halts.{Halted, OnFound}
-use Rattle.check_rules.specs.block_walk.Marks.{MarkList}
-use Rattle.check_rules.specs.block_walk.Walks.{Walked}
-use Rattle.check_rules.proofs.block_walk_lemmas.Halting.{halted_here}
+use Rattle.check_rules.specs.check_walk.declared.flaw.Flaw.{Flaw}
+use Rattle.check_rules.specs.check_walk.declared.flaw.Halt.{Halt}
+use Rattle.check_rules.specs.check_walk.Fronts.{FrontState, joined_front}
+use Rattle.check_rules.specs.check_walk.Halts.{Halted, OnFound}
+use Rattle.check_rules.specs.check_walk.Marks.{MarkList}
+use Rattle.check_rules.specs.check_walk.Walks.{Walked}
+use Rattle.check_rules.proofs.check_walk_lemmas.Halting.{halted_here}
 use Rattle.check_rules.specs.Flaws.{FitsBody}
 use Rattle.check_rules.specs.dir_entries.Layout.{Listing}
 use Rattle.check_rules.specs.fs_blobs.Headers.{blob, header_text, BeginsWith}

@@ -16,8 +16,8 @@ use Rattle.check_rules.specs.store_api.Content.{Id, id_cmp}
 use Rattle.check_rules.specs.store_api.Holdings.{has_id}
 use Rattle.check_rules.specs.store_api.Loads.{LoadAnswer}
 use Rattle.check_rules.proofs.store_api_lemmas.Rising.{ids_total}
-use Rattle.check_rules.specs.block_walk.Given.{Given, content_of}
-use Rattle.check_rules.specs.block_walk.Marks.{MarkList, unmarked, owner_of, first_unowned}
+use Rattle.check_rules.specs.check_walk.Given.{Given, content_of}
+use Rattle.check_rules.specs.check_walk.Marks.{MarkList, unmarked, owner_of, first_unowned}
 use Rattle.check_rules.specs.Certificates.{IsOwner, AreOwners, Certifies}
 use Rattle.cryfs_check.specs.Places.{PlaceText, paths_of, sites_of, owners_of}
 use Rattle.cryfs_check.specs.Seats.{Site, Seat, site_of, root_site, sites, Among, tree_in, blobs_in, ids_in, text_of, AreFound, AreSeats}

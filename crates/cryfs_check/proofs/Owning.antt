@@ -10,8 +10,8 @@ use Rattle.check_rules.proofs.data_tree_lemmas.Making.{alone-join}
 use Rattle.check_rules.specs.store_api.Content.{Id, same_id}
 use Rattle.check_rules.specs.store_api.Holdings.{has_id}
 use Rattle.check_rules.proofs.store_api_lemmas.Rising.{same_id_is}
-use Rattle.check_rules.specs.block_walk.Given.{Given}
-use Rattle.check_rules.specs.block_walk.Marks.{MarkList, MarkedAll, owner_of}
+use Rattle.check_rules.specs.check_walk.Given.{Given}
+use Rattle.check_rules.specs.check_walk.Marks.{MarkList, MarkedAll, owner_of}
 use Rattle.cryfs_check.specs.Seats.{Seat}
 use Rattle.cryfs_check.specs.Visits.{AreOwned}
 use Rattle.cryfs_check.proofs.Lists.{at_left, at_end, at_pushed}

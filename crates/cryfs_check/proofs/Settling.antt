@@ -8,7 +8,7 @@ use Rattle.std.proofs.lemmas.List.Elements.{All-head, All-tail}
 use Rattle.std.proofs.lemmas.Option.{same_Some}
 use Rattle.check_rules.specs.data_tree.Stored.{BlobTree}
 use Rattle.check_rules.specs.dir_entries.Layout.{EntryTarget, Listing, IsEntry}
-use Rattle.check_rules.specs.forest.Nodes.{IsBodyOf}
+use Rattle.check_rules.specs.path_walks.Nodes.{IsBodyOf}
 use Rattle.fs_model.specs.declared.attr.Kind.{Kind}
 use Rattle.fs_model.specs.declared.attr.Kind.TheVariants.{Directory, File, Link}
 use Rattle.fs_model.specs.declared.attr.TheConstants.{DIRECTORY_MODE}
@@ -18,8 +18,8 @@ use Rattle.fs_model.specs.Tree.{Path, name_cmp, root_row, FitsKind, IsWithinLimi
 use Rattle.fs_model.proofs.TreeLemmas.{name_total, name_exact, path_total, path_exact}
 use Rattle.check_rules.specs.store_api.Content.{Id, id_cmp}
 use Rattle.check_rules.specs.store_api.Holdings.{has_id}
-use Rattle.check_rules.specs.block_walk.Given.{Given, content_of}
-use Rattle.check_rules.specs.block_walk.Marks.{MarkList}
+use Rattle.check_rules.specs.check_walk.Given.{Given, content_of}
+use Rattle.check_rules.specs.check_walk.Marks.{MarkList}
 use Rattle.cryfs_check.specs.Rows.{FitsRow}
 use Rattle.cryfs_check.specs.Seats.{Site, Seat, site_of, row_of, root_site, child_of, sites, text_of, bytes_in, Among, seat_at, look_in, target_in, IsEntered, IsBelow, IsRootSeat, HaveOnePath, AreFound, AreSeats}
 use Rattle.cryfs_check.specs.Visits.{AreOwned}

@@ -13,8 +13,8 @@ use Rattle.std.proofs.lemmas.Bool.{or_left}
 use Rattle.check_rules.specs.blob_api.BlobMap.{id_cmp}
 use Rattle.check_rules.specs.data_tree.Stored.{BlobTree, StoresBlobs}
 use Rattle.check_rules.proofs.data_tree_lemmas.Ids.{same_self}
-use Rattle.check_rules.specs.forest.Nodes.{Lists, IsBodyOf, IsBlobOf}
-use Rattle.check_rules.specs.forest.Shows.{above, target_for, entries_at, ShowsBy}
+use Rattle.check_rules.specs.path_walks.Nodes.{Lists, IsBodyOf, IsBlobOf}
+use Rattle.check_rules.specs.path_walks.Shows.{above, target_for, entries_at, ShowsBy}
 use Rattle.check_rules.specs.fs_blobs.Headers.{blob}
 use Rattle.fs_model.specs.declared.attr.Kind.{Kind}
 use Rattle.fs_model.specs.declared.attr.Kind.TheVariants.{Directory, File, Link}

@@ -19,15 +19,15 @@ use Rattle.fs_model.proofs.TreeLemmas.{name_total, name_exact}
 use Rattle.check_rules.specs.store_api.Content.{Id, Content, same_id}
 use Rattle.check_rules.specs.store_api.Holdings.{has_id}
 use Rattle.check_rules.specs.store_api.Loads.{LoadAnswer}
-use Rattle.check_rules.specs.block_walk.declared.flaw.Flaw.{Flaw}
-use Rattle.check_rules.specs.block_walk.declared.flaw.Flaw.TheVariants.{BadNode, BadBlob, Parent, Twice, NotLive, Unowned}
-use Rattle.check_rules.specs.block_walk.declared.flaw.Halt.{Halt}
-use Rattle.check_rules.specs.block_walk.declared.flaw.Halt.TheVariants.{Found, Failing}
-use Rattle.check_rules.specs.block_walk.Given.{Given, Asked, AgreesWith, given_of, content_of}
-use Rattle.check_rules.specs.block_walk.Halts.{Halted, OnFound, IsOwned}
-use Rattle.check_rules.specs.block_walk.Marks.{MarkList, owner_of}
-use Rattle.check_rules.proofs.block_walk_lemmas.Chains.{agrees-parts}
-use Rattle.check_rules.proofs.block_walk_lemmas.Halting.{asked_of, gave-asked, asked-then, asked-ids, asked-again, given-then}
+use Rattle.check_rules.specs.check_walk.declared.flaw.Flaw.{Flaw}
+use Rattle.check_rules.specs.check_walk.declared.flaw.Flaw.TheVariants.{BadNode, BadBlob, Parent, Twice, NotLive, Unowned}
+use Rattle.check_rules.specs.check_walk.declared.flaw.Halt.{Halt}
+use Rattle.check_rules.specs.check_walk.declared.flaw.Halt.TheVariants.{Found, Failing}
+use Rattle.check_rules.specs.check_walk.Given.{Given, Asked, AgreesWith, given_of, content_of}
+use Rattle.check_rules.specs.check_walk.Halts.{Halted, OnFound, IsOwned}
+use Rattle.check_rules.specs.check_walk.Marks.{MarkList, owner_of}
+use Rattle.check_rules.proofs.check_walk_lemmas.Chains.{agrees-parts}
+use Rattle.check_rules.proofs.check_walk_lemmas.Halting.{asked_of, gave-asked, asked-then, asked-ids, asked-again, given-then}
 use Rattle.check_rules.specs.Flaws.{HasFlaw, HasBadBlob, HasParent}
 use Rattle.check_rules.specs.Marked.{IsElsewhere, MarksOthers}
 use Rattle.check_rules.specs.Reached.{IsReached}

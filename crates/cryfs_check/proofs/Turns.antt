@@ -8,8 +8,8 @@ use Rattle.std.proofs.lemmas.Option.{slice_get_within, get_or_from_slice_get, sa
 use Rattle.check_rules.specs.data_tree.Stored.{BlobTree}
 use Rattle.check_rules.specs.store_api.Content.{Id}
 use Rattle.check_rules.specs.store_api.Loads.{LoadAnswer}
-use Rattle.check_rules.specs.block_walk.Marks.{MarkList, MarkedAll, owner_of}
-use Rattle.check_rules.proofs.block_walk_lemmas.Chains.{gave-then, agrees-parts}
+use Rattle.check_rules.specs.check_walk.Marks.{MarkList, MarkedAll, owner_of}
+use Rattle.check_rules.proofs.check_walk_lemmas.Chains.{gave-then, agrees-parts}
 use Rattle.fs_model.specs.declared.attr.Kind.{Kind}
 use Rattle.cryfs_check.specs.declared.place.Visit.{Visit}
 use Rattle.cryfs_check.specs.Places.{PlaceText, sites_of, placed, site_needs, visit_needs}

@@ -5,15 +5,15 @@ use Rattle.check_rules.specs.blob_api.BlobMap.{BlobMap}
 use Rattle.check_rules.specs.data_nodes.Layout.{ids_of}
 use Rattle.check_rules.specs.data_tree.Stored.{StoresBlobs}
 use Rattle.check_rules.specs.data_tree.Trees.{NoDoubles}
-use Rattle.check_rules.specs.forest.Shows.{ShowsTree}
+use Rattle.check_rules.specs.path_walks.Shows.{ShowsTree}
 use Rattle.fs_model.specs.Tree.{Tree}
 use Rattle.block_id.specs.declared.fail.Fail.{Fail}
 use Rattle.block_id.specs.declared.id.BlockId.{BlockId}
-use Rattle.check_rules.specs.block_walk.declared.flaw.Flaw.{Flaw}
-use Rattle.check_rules.specs.block_walk.declared.flaw.Halt.{Halt}
-use Rattle.check_rules.specs.block_walk.declared.flaw.Halt.TheVariants.{Found, Failing}
-use Rattle.check_rules.specs.block_walk.Given.{Given, GaveBy, Asked, AskedBy, given_of, content_of}
-use Rattle.check_rules.specs.block_walk.Marks.{unmarked}
+use Rattle.check_rules.specs.check_walk.declared.flaw.Flaw.{Flaw}
+use Rattle.check_rules.specs.check_walk.declared.flaw.Halt.{Halt}
+use Rattle.check_rules.specs.check_walk.declared.flaw.Halt.TheVariants.{Found, Failing}
+use Rattle.check_rules.specs.check_walk.Given.{Given, GaveBy, Asked, AskedBy, given_of, content_of}
+use Rattle.check_rules.specs.check_walk.Marks.{unmarked}
 use Rattle.check_rules.specs.Certificates.{Owners, Certifies}
 use Rattle.check_rules.specs.Flaws.{HasFlaw, Refutes}
 use Rattle.check_rules.specs.store_api.Content.{Id, Content, id_cmp}

@@ -1,6 +1,6 @@
 -- Why visits stop.
 use Rattle.std.specs.Prelude.{◌≡◌, ℕ, true, List, length, map, is_some}
-use Rattle.check_rules.specs.outcome.Meanings.{Meanings}
+use Rattle.check_rules.specs.store_outcome.Meanings.{Meanings}
 use Rattle.check_rules.specs.data_tree.Stored.{BlobTree}
 use Rattle.check_rules.specs.data_tree.Trees.{NoDoubles}
 use Rattle.check_rules.specs.fs_blobs.Headers.{blob}
@@ -8,13 +8,13 @@ use Rattle.fs_model.specs.declared.attr.Kind.{Kind}
 use Rattle.check_rules.specs.store_api.Content.{Id, Content}
 use Rattle.check_rules.specs.store_api.Holdings.{Holdings, has_id}
 use Rattle.check_rules.specs.store_api.Loads.{LoadAnswer}
-use Rattle.check_rules.specs.block_walk.declared.flaw.Flaw.{Flaw}
-use Rattle.check_rules.specs.block_walk.declared.flaw.Flaw.TheVariants.{BadBlob, Parent}
-use Rattle.check_rules.specs.block_walk.declared.flaw.Halt.{Halt}
-use Rattle.check_rules.specs.block_walk.Given.{Asked, AskedBy, IsLoad, given_of, content_of}
-use Rattle.check_rules.specs.block_walk.Halts.{FlawAt, Halted, OnFound}
-use Rattle.check_rules.specs.block_walk.Marks.{MarkList, owner_of}
-use Rattle.check_rules.specs.block_walk.Needs.{top, Leads}
+use Rattle.check_rules.specs.check_walk.declared.flaw.Flaw.{Flaw}
+use Rattle.check_rules.specs.check_walk.declared.flaw.Flaw.TheVariants.{BadBlob, Parent}
+use Rattle.check_rules.specs.check_walk.declared.flaw.Halt.{Halt}
+use Rattle.check_rules.specs.check_walk.Given.{Asked, AskedBy, IsLoad, given_of, content_of}
+use Rattle.check_rules.specs.check_walk.Halts.{FlawAt, Halted, OnFound}
+use Rattle.check_rules.specs.check_walk.Marks.{MarkList, owner_of}
+use Rattle.check_rules.specs.check_walk.Needs.{top, Leads}
 use Rattle.check_rules.specs.Flaws.{FitsBody, HasFlaw}
 use Rattle.cryfs_check.specs.declared.place.Visit.{Visit}
 

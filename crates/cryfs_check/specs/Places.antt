@@ -5,7 +5,7 @@ use Rattle.check_rules.specs.dir_entries.Layout.{EntryTarget, Listing, entry_of}
 use Rattle.fs_model.specs.declared.attr.Kind.{Kind}
 use Rattle.fs_model.specs.Tree.{Path}
 use Rattle.check_rules.specs.store_api.Content.{Id}
-use Rattle.check_rules.specs.block_walk.Marks.{MarkList}
+use Rattle.check_rules.specs.check_walk.Marks.{MarkList}
 use Rattle.cryfs_check.specs.declared.place.Place.{Place}
 use Rattle.cryfs_check.specs.declared.place.Visit.{Visit}
 use Rattle.cryfs_check.specs.Seats.{Site, root_site, child_of}

@@ -5,7 +5,7 @@ use Rattle.block_id.specs.Fresh.{zero_id}
 use Rattle.check_rules.specs.blob_api.BlobMap.{BlobMap}
 use Rattle.check_rules.specs.data_tree.Stored.{BlobTree}
 use Rattle.check_rules.specs.dir_entries.Layout.{EntryTarget, Listing}
-use Rattle.check_rules.specs.forest.Nodes.{Look, IsBodyOf}
+use Rattle.check_rules.specs.path_walks.Nodes.{Look, IsBodyOf}
 use Rattle.check_rules.specs.fs_blobs.Headers.{blob}
 use Rattle.fs_model.specs.declared.attr.Attr.{Attr}
 use Rattle.fs_model.specs.declared.attr.Kind.{Kind}

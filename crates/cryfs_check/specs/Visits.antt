@@ -8,10 +8,10 @@ use Rattle.fs_model.specs.declared.attr.Kind.{Kind}
 use Rattle.check_rules.specs.store_api.Content.{Id, Content}
 use Rattle.check_rules.specs.store_api.Holdings.{has_id}
 use Rattle.check_rules.specs.store_api.Loads.{LoadAnswer}
-use Rattle.check_rules.specs.block_walk.Fronts.{FrontState}
-use Rattle.check_rules.specs.block_walk.Given.{Given, GaveBy, AgreesWith}
-use Rattle.check_rules.specs.block_walk.Marks.{MarkList, owner_of}
-use Rattle.check_rules.specs.block_walk.Walks.{Walked}
+use Rattle.check_rules.specs.check_walk.Fronts.{FrontState}
+use Rattle.check_rules.specs.check_walk.Given.{Given, GaveBy, AgreesWith}
+use Rattle.check_rules.specs.check_walk.Marks.{MarkList, owner_of}
+use Rattle.check_rules.specs.check_walk.Walks.{Walked}
 use Rattle.cryfs_check.specs.Rows.{IsRowBlob, most_kept}
 use Rattle.cryfs_check.specs.Places.{PlaceText, AreBehind, placed, sites_of}
 use Rattle.cryfs_check.specs.Seats.{Site, Seat, sites, text_of, Among, AreFound}

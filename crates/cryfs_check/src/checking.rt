@@ -1,13 +1,13 @@
 // The check of a whole file system.
 ghost use Rattle.std.specs.Prelude.{◌≡◌, ◌<◌, ◌+◌, ℕ, [], T, map, OnOk, IfOk, IfErr, Some, is_some, length};
 ghost use Rattle.std.specs.FinMap.{is_sorted};
-ghost use Rattle.check_rules.specs.outcome.Meanings.{IsOfBlocks};
-ghost use Rattle.check_rules.specs.outcome.Outcome.{Outcome};
+ghost use Rattle.check_rules.specs.store_outcome.Meanings.{IsOfBlocks};
+ghost use Rattle.check_rules.specs.store_outcome.Outcome.{Outcome};
 ghost use Rattle.check_rules.specs.store_api.Content.{Id, id_cmp};
 ghost use Rattle.check_rules.specs.store_api.Holdings.{Stays, has_id};
 ghost use Rattle.check_rules.specs.data_nodes.Layout.{ids_of};
-ghost use Rattle.check_rules.specs.block_walk.Given.{fail_of, IsLoad};
-ghost use Rattle.check_rules.specs.block_walk.Marks.{unmarked, owner_of};
+ghost use Rattle.check_rules.specs.check_walk.Given.{fail_of, IsLoad};
+ghost use Rattle.check_rules.specs.check_walk.Marks.{unmarked, owner_of};
 ghost use Rattle.cryfs_check.specs.Checks.{answer_to, ListsLive, ShowsSome, IsYes, OnYes, OnNo, AsksOnce, IsCertified, IsRefuted};
 ghost use Rattle.cryfs_check.specs.Halts.{IsHalted, IsStopped};
 ghost use Rattle.cryfs_check.specs.Places.{places_text};
@@ -17,7 +17,7 @@ use crate::owners::Owners;
 use crate::place::{Place, Visit, place_entries, visit_at};
 use crate::visiting::visit;
 use block_id::{BlockId, Fail, Memory};
-use check_rules::block_walk::{Flaw, Halt, Marks};
+use check_rules::check_walk::{Flaw, Halt, Marks};
 use check_rules::store_api::Blocks;
 use std::alloc::Global;
 

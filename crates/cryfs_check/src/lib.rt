@@ -12,4 +12,4 @@ pub use place::{Place, Visit, place_entries, visit_at};
 pub use visiting::visit;
 
 // Handed on to crates above, which needn't list them.
-pub use check_rules::block_walk;
+pub use check_rules::check_walk;

@@ -6,7 +6,7 @@ ghost use Rattle.cryfs_check.specs.Places.{owners_of, places_text, paths_of, Are
 
 use crate::place::Place;
 use block_id::{BlockId, Memory};
-use check_rules::block_walk::Marks;
+use check_rules::check_walk::Marks;
 use fs_model::{Name, Path};
 use std::alloc::Global;
 use std::marker::Model;

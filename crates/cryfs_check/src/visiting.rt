@@ -1,19 +1,19 @@
 // One path of the tree: its blob is walked and judged.
 ghost use Rattle.std.specs.Prelude.{◌≡◌, ◌≢◌, ◌<◌, [], true, false, IfOk, IfErr, IfSome, IfNone};
-ghost use Rattle.check_rules.specs.outcome.Meanings.{IsOfBlocks};
-ghost use Rattle.check_rules.specs.outcome.Outcome.{Outcome};
+ghost use Rattle.check_rules.specs.store_outcome.Meanings.{IsOfBlocks};
+ghost use Rattle.check_rules.specs.store_outcome.Outcome.{Outcome};
 ghost use Rattle.check_rules.specs.store_api.Holdings.{Stays};
 ghost use Rattle.check_rules.specs.data_tree.Stored.{BlobTree};
 ghost use Rattle.check_rules.specs.dir_entries.Layout.{Listing, listing_of};
-ghost use Rattle.check_rules.specs.block_walk.Fronts.{FrontState};
-ghost use Rattle.check_rules.specs.block_walk.Given.{fail_of, IsLoad};
-ghost use Rattle.check_rules.specs.block_walk.Walks.{Walked};
+ghost use Rattle.check_rules.specs.check_walk.Fronts.{FrontState};
+ghost use Rattle.check_rules.specs.check_walk.Given.{fail_of, IsLoad};
+ghost use Rattle.check_rules.specs.check_walk.Walks.{Walked};
 ghost use Rattle.cryfs_check.specs.Rows.{IsRowBlob, FitsKept, most_kept};
 ghost use Rattle.cryfs_check.specs.Halts.{IsHalted};
 
 use crate::place::Visit;
 use block_id::{Fail, Memory};
-use check_rules::block_walk::{Flaw, Front, Halt, Marks, walk_root};
+use check_rules::check_walk::{Flaw, Front, Halt, Marks, walk_root};
 use check_rules::dir_entries::{Entry, decode_entries};
 use check_rules::fs_blobs::{HEADER_LEN, read_header};
 use check_rules::store_api::Blocks;

@@ -3,15 +3,15 @@ use Rattle.std.proofs.Common.{◌≡◌, ◌≤◌, ℕ, true, false, List, sym,
 use Rattle.std.specs.declared.option.Option.{Option}
 use Rattle.std.specs.declared.option.Option.TheVariants.{Some}
 use Rattle.fs_model.specs.Instant.{Instant}
-use Rattle.histories.specs.held_blocks.Standing.{records}
+use Rattle.session_laws.specs.block_versions.Standing.{records}
 use Rattle.check_runs.specs.mount_core.Standing.{IsKeptMarked}
 use Rattle.outside.specs.Trace.{Call}
 use Rattle.outside.specs.declared.keeper.Keeper.{Ghosts as KeeperGhosts}
 use Rattle.run_status.specs.declared.ended.Ended.{Ended}
-use Rattle.check_runs.specs.session_runs.Drawing.{DrawsAs}
-use Rattle.check_runs.specs.session_runs.Runs.{outside_of}
-use Rattle.shell_words.specs.declared.form.Form.{Form}
-use Rattle.shell_words.specs.Forms.{form_of}
+use Rattle.session_laws.specs.Drawing.{DrawsAs}
+use Rattle.session_laws.specs.Runs.{outside_of}
+use Rattle.program_words.specs.declared.form.Form.{Form}
+use Rattle.program_words.specs.Forms.{form_of}
 use Rattle.cryfs_shell.specs.Clauses.{IsRefusedRun, NoFalseAlarm, KeepsTree, FaultsNamed, TellsFaults, StatusSays, Spares}
 use Rattle.cryfs_shell.specs.Doing.{Did, IsCaused}
 use Rattle.cryfs_shell.specs.History.{HasHistory}

@@ -3,30 +3,30 @@ use Rattle.std.proofs.Common.{◌≡◌, ℕ, Bool, false, List, [], refl, sym, 
 use Rattle.std.specs.declared.option.Option.{Option}
 use Rattle.std.specs.declared.option.Option.TheVariants.{Some}
 use Rattle.rand_core.specs.Stream.{Stream as Chance}
-use Rattle.plain_trials.specs.answers.Sessions.{Exchange, is_violation}
+use Rattle.trial_runs.specs.answers.Sessions.{Exchange, is_violation}
 use Rattle.check_runs.specs.Judging.{is_bad}
 use Rattle.check_runs.specs.Running.{RanCheck}
 use Rattle.check_runs.specs.SurveyRuns.{RanSurvey}
 use Rattle.check_runs.proofs.Leaving.{examined_run}
 use Rattle.check_runs.proofs.SurveyLeaving.{quiet_run}
-use Rattle.check_runs.specs.cryfs_setup.Info.{Told}
-use Rattle.check_runs.specs.cryfs_setup.Migrate.{RanMigrate}
-use Rattle.check_runs.specs.cryfs_setup.Passwd.{RanPasswd}
+use Rattle.check_runs.specs.setup_runs.Info.{Told}
+use Rattle.check_runs.specs.setup_runs.Migrate.{RanMigrate}
+use Rattle.check_runs.specs.setup_runs.Passwd.{RanPasswd}
 use Rattle.fs_model.specs.Instant.{Instant}
-use Rattle.histories.specs.Histories.{Run, session, quiet, examined, migrated}
-use Rattle.plain_trials.specs.line_io.Streams.{Stream}
+use Rattle.session_laws.specs.Histories.{Run, session, quiet, examined, migrated}
+use Rattle.trial_runs.specs.line_io.Streams.{Stream}
 use Rattle.outside.specs.Trace.{Call}
 use Rattle.outside.specs.declared.keeper.Keeper.{Ghosts as KeeperGhosts}
-use Rattle.check_runs.specs.session_runs.Openings.{AreUncalled}
+use Rattle.session_laws.specs.Openings.{AreUncalled}
 use Rattle.run_status.specs.declared.ended.Ended.{Ended}
 use Rattle.run_status.specs.declared.status.Status.{Status}
-use Rattle.plain_trials.specs.session_lines.declared.end.End.{End}
-use Rattle.check_runs.specs.session_runs.Runs.{Outside, outside_of, IsQuietRun}
-use Rattle.copy_runs.specs.shell_sessions.Sessions.{Session}
-use Rattle.shell_words.specs.declared.form.Form.{Form}
-use Rattle.shell_words.specs.declared.form.Form.TheVariants.{Trial, TrialGenerate, Create, Info, Passwd, Migrate, Shell, Generate, Command, Import, Export, Put, Get, Check, Survey}
-use Rattle.shell_words.specs.Forms.{form_of, is_create}
-use Rattle.shell_words.proofs.FormsOf.{IsPlain, other_is_other}
+use Rattle.trial_runs.specs.session_lines.declared.end.End.{End}
+use Rattle.session_laws.specs.Runs.{Outside, outside_of, IsQuietRun}
+use Rattle.copy_runs.specs.shell_runs.Sessions.{Session}
+use Rattle.program_words.specs.declared.form.Form.{Form}
+use Rattle.program_words.specs.declared.form.Form.TheVariants.{Trial, TrialGenerate, Create, Info, Passwd, Migrate, Shell, Generate, Command, Import, Export, Put, Get, Check, Survey}
+use Rattle.program_words.specs.Forms.{form_of, is_create}
+use Rattle.program_words.proofs.FormsOf.{IsPlain, other_is_other}
 use Rattle.check_runs.specs.mount_core.Showing.{ShowsFiles}
 use Rattle.cryfs_shell.proofs.Checks.{ends_by, bad_by}
 use Rattle.cryfs_shell.proofs.Migrations as migrations

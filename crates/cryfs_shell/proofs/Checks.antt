@@ -4,24 +4,24 @@ use Rattle.std.specs.declared.option.Option.{Option}
 use Rattle.check_runs.specs.Judging.{is_bad}
 use Rattle.check_runs.specs.Running.{RanCheck, IsCheckTold}
 use Rattle.check_runs.proofs.Leaving.{CheckStatus, check_status, is_violation, violation_is, output_failed, output_quiet, examined_run, state_quiet}
-use Rattle.histories.specs.config_file.Settings.{Settings}
+use Rattle.session_laws.specs.config_file.Settings.{Settings}
 use Rattle.cryfs_shell.specs.Clauses.{IsRefusedRun, NoFalseAlarm, KeepsTree, FaultsHappened}
 use Rattle.cryfs_shell.proofs.Statuses.{IsOfOpening, opening_is_no}
 use Rattle.cryfs_shell.proofs.Sessions.{IsUnreadStatus, one_unread, unread_is_no, unread_faults, unread_refusal, unread_keeps, opens_under, only_under, unopened_faults, unopened_refusal, unopened_alarm, unopened_keeps, grown}
 use Rattle.fs_model.specs.Tree.{Tree}
-use Rattle.histories.specs.held_blocks.Standing.{records}
-use Rattle.plain_trials.specs.line_io.Streams.{Stream}
+use Rattle.session_laws.specs.block_versions.Standing.{records}
+use Rattle.trial_runs.specs.line_io.Streams.{Stream}
 use Rattle.check_runs.specs.mount_core.Standing.{IsKeptMarked}
 use Rattle.outside.specs.Trace.{Call}
 use Rattle.outside.specs.declared.keeper.Keeper.{Ghosts as KeeperGhosts}
-use Rattle.histories.specs.passwords.Passwords.{PasswordUnread}
+use Rattle.session_laws.specs.run_frame.Passwords.{PasswordUnread}
 use Rattle.run_status.specs.declared.ended.Ended.{Ended}
 use Rattle.run_status.specs.declared.status.Status.{Status}
 use Rattle.run_status.specs.declared.status.Status.TheVariants.{Usage, LongPassword, Violation, OutputFault, HostFault}
-use Rattle.plain_trials.specs.session_lines.Driven.{IsUnfailed}
-use Rattle.check_runs.proofs.session_runs_lemmas.Whole.{only_opens}
-use Rattle.check_runs.specs.session_runs.Openings.{AreUncalled, HasCauses}
-use Rattle.check_runs.specs.session_runs.Runs.{OutsideStandsFor, outside_of}
+use Rattle.trial_runs.specs.session_lines.Driven.{IsUnfailed}
+use Rattle.session_laws.proofs.Whole.{only_opens}
+use Rattle.session_laws.specs.Openings.{AreUncalled, HasCauses}
+use Rattle.session_laws.specs.Runs.{OutsideStandsFor, outside_of}
 use Rattle.check_runs.specs.mount_core.Showing.{ShowsFiles}
 
 not_bad : (bad : Bool) → (bad ≡ true → ⊥) → bad ≡ false

@@ -1,16 +1,16 @@
 -- A session whose exchanges came in one way, as one whose exchanges came in another.
 use Rattle.std.proofs.Common.{◌≡◌, ◌⊎◌, ℕ, List, ap, inl, inr}
 use Rattle.std.specs.declared.option.Option.{Option}
-use Rattle.plain_trials.specs.answers.Sessions.{Exchange}
+use Rattle.trial_runs.specs.answers.Sessions.{Exchange}
 use Rattle.fs_model.specs.Instant.{Instant}
 use Rattle.copy_runs.specs.host_folder.Folders.{HostTree}
-use Rattle.plain_trials.specs.line_io.Streams.{Stream}
+use Rattle.trial_runs.specs.line_io.Streams.{Stream}
 use Rattle.outside.specs.Trace.{Call}
 use Rattle.outside.specs.declared.keeper.Keeper.{Ghosts as KeeperGhosts}
 use Rattle.run_status.specs.declared.ended.Ended.{Ended}
 use Rattle.run_status.specs.declared.status.Status.{Status}
-use Rattle.plain_trials.specs.session_lines.declared.end.End.{End}
-use Rattle.copy_runs.specs.shell_sessions.Sessions.{Session, IsServed, WasServed}
+use Rattle.trial_runs.specs.session_lines.declared.end.End.{End}
+use Rattle.copy_runs.specs.shell_runs.Sessions.{Session, IsServed, WasServed}
 use Rattle.cryfs_shell.specs.Copies.{HostSession}
 use Rattle.cryfs_shell.specs.Hosts.{IsStill, host_of}
 

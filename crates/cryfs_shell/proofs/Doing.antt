@@ -3,25 +3,25 @@ use Rattle.std.proofs.Common.{◌≡◌, ◌≢◌, ℕ, true, List, sym, ◌∙
 use Rattle.std.specs.declared.option.Option.{Option}
 use Rattle.std.specs.declared.option.Option.TheVariants.{Some}
 use Rattle.rand_core.specs.Stream.{Stream as Chance}
-use Rattle.plain_trials.specs.answers.Sessions.{Exchange}
+use Rattle.trial_runs.specs.answers.Sessions.{Exchange}
 use Rattle.fs_model.specs.Instant.{Instant}
-use Rattle.histories.specs.held_blocks.Standing.{records}
-use Rattle.plain_trials.specs.line_io.Streams.{Stream}
-use Rattle.check_runs.specs.mount_tower.Drawing.{drawn}
+use Rattle.session_laws.specs.block_versions.Standing.{records}
+use Rattle.trial_runs.specs.line_io.Streams.{Stream}
+use Rattle.check_runs.specs.mount_stores.Drawing.{drawn}
 use Rattle.check_runs.specs.mount_core.Standing.{IsKeptMarked}
 use Rattle.outside.specs.Causes.{RoseBy}
 use Rattle.outside.specs.Trace.{Call}
 use Rattle.outside.specs.declared.keeper.Keeper.{Ghosts as KeeperGhosts}
-use Rattle.check_runs.specs.session_runs.Openings.{AreUncalled}
+use Rattle.session_laws.specs.Openings.{AreUncalled}
 use Rattle.run_status.specs.declared.ended.Ended.{Ended}
 use Rattle.run_status.specs.declared.status.Status.{Status}
 use Rattle.run_status.specs.declared.status.Status.TheVariants.{Done, Usage, LongPassword, Violation, HostFault}
-use Rattle.plain_trials.specs.session_lines.declared.end.End.{End}
-use Rattle.check_runs.specs.session_runs.Runs.{outside_of}
-use Rattle.copy_runs.specs.shell_sessions.Sessions.{ComesShell, ComesGenerated, ComesCommand}
-use Rattle.shell_words.specs.declared.form.Form.{Form}
-use Rattle.shell_words.specs.declared.form.Form.TheVariants.{Trial, TrialGenerate, Create, Info, Passwd, Migrate, Shell, Generate, Command, Import, Export, Put, Get, Check, Survey}
-use Rattle.shell_words.specs.Forms.{joined}
+use Rattle.trial_runs.specs.session_lines.declared.end.End.{End}
+use Rattle.session_laws.specs.Runs.{outside_of}
+use Rattle.copy_runs.specs.shell_runs.Sessions.{ComesShell, ComesGenerated, ComesCommand}
+use Rattle.program_words.specs.declared.form.Form.{Form}
+use Rattle.program_words.specs.declared.form.Form.TheVariants.{Trial, TrialGenerate, Create, Info, Passwd, Migrate, Shell, Generate, Command, Import, Export, Put, Get, Check, Survey}
+use Rattle.program_words.specs.Forms.{joined}
 use Rattle.copy_runs.proofs.copy_sessions_lemmas.Imported.{told_host as copy_host}
 use Rattle.cryfs_shell.specs.Clauses.{IsRefusedRun, NoFalseAlarm, KeepsTree, FaultsHappened, IsEmptied}
 use Rattle.cryfs_shell.specs.Copies.{Imports, Exports, Puts, Gets}
@@ -29,7 +29,7 @@ use Rattle.cryfs_shell.specs.Doing.{Did, IsCaused}
 use Rattle.cryfs_shell.specs.Hosts.{HostSeen}
 use Rattle.cryfs_shell.specs.Kinds.{is_session, opens}
 use Rattle.cryfs_shell.specs.Streams.{Streams}
-use Rattle.copy_runs.proofs.file_copies_lemmas.Sessions.{put_unhosted, get_unhosted}
+use Rattle.copy_runs.proofs.copy_file_lemmas.Sessions.{put_unhosted, get_unhosted}
 use Rattle.cryfs_shell.proofs.Files.{put_cause, get_cause}
 use Rattle.cryfs_shell.proofs.Statuses.{EndCause}
 use Rattle.cryfs_shell.proofs.Sessions.{session_faults, session_refusal, session_alarm, session_keeps, session_emptied, session_uncalled, session_usage, session_host}

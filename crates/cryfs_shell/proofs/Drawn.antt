@@ -4,9 +4,9 @@ use Rattle.std.specs.declared.option.Option.{Option}
 use Rattle.outside.specs.Trace.{Call}
 use Rattle.outside.specs.declared.keeper.Keeper.{Ghosts as KeeperGhosts}
 use Rattle.rand_core.specs.Stream.{Stream}
-use Rattle.check_runs.proofs.session_runs_lemmas.Drawing.{draws_nothing, named_nothing}
-use Rattle.check_runs.specs.session_runs.Drawing.{DrawsVectors, DrawsAs}
-use Rattle.check_runs.specs.session_runs.Runs.{outside_of}
+use Rattle.session_laws.proofs.Drawing.{draws_nothing, named_nothing}
+use Rattle.session_laws.specs.Drawing.{DrawsVectors, DrawsAs}
+use Rattle.session_laws.specs.Runs.{outside_of}
 
 pub undone : {V : Type 0} {K : Type 0} (trace : V → Option (List Call)) (faults : V → ℕ) (G : KeeperGhosts K) (vault : V) (keeper : K) (stream : Stream)
     → DrawsVectors stream stream (outside_of trace faults G vault keeper) (outside_of trace faults G vault keeper)

@@ -4,20 +4,20 @@ use Rattle.std.specs.declared.option.Option.{Option}
 use Rattle.std.specs.declared.option.Option.TheVariants.{None}
 use Rattle.std.specs.declared.result.Result.{Result}
 use Rattle.std.specs.declared.result.Result.TheVariants.{Ok, Err}
-use Rattle.plain_trials.specs.answers.declared.answer.Answer.{Answer}
-use Rattle.plain_trials.specs.answers.Sessions.{Exchange}
-use Rattle.copy_runs.specs.copy_rules.declared.copied.Totals.{Totals}
-use Rattle.copy_runs.specs.copy_rules.Questions.{Question}
+use Rattle.trial_runs.specs.answers.declared.answer.Answer.{Answer}
+use Rattle.trial_runs.specs.answers.Sessions.{Exchange}
+use Rattle.copy_runs.specs.copy_laws.declared.copied.Totals.{Totals}
+use Rattle.copy_runs.specs.copy_laws.Questions.{Question}
 use Rattle.copy_runs.specs.copy_sessions.Fitting.{kept_after}
-use Rattle.copy_runs.specs.file_copies.Coming.{IsPutTold, IsPutSession, IsGetEnd, IsGetSession}
-use Rattle.copy_runs.specs.file_copies.Getting.{IsGet}
-use Rattle.copy_runs.specs.file_copies.Putting.{InputBy}
+use Rattle.copy_runs.specs.copy_file.Coming.{IsPutTold, IsPutSession, IsGetEnd, IsGetSession}
+use Rattle.copy_runs.specs.copy_file.Getting.{IsGet}
+use Rattle.copy_runs.specs.copy_file.Putting.{InputBy}
 use Rattle.copy_runs.specs.host_folder.Folders.{HostPath}
-use Rattle.plain_trials.specs.line_io.Streams.{Stream}
-use Rattle.copy_runs.specs.row_copy.declared.stop.Stop.{Stop}
-use Rattle.copy_runs.specs.row_copy.declared.stop.Stop.TheVariants as stop
+use Rattle.trial_runs.specs.line_io.Streams.{Stream}
+use Rattle.copy_runs.specs.copy_row.declared.stop.Stop.{Stop}
+use Rattle.copy_runs.specs.copy_row.declared.stop.Stop.TheVariants as stop
 use Rattle.run_status.specs.declared.status.Status.{Status}
-use Rattle.plain_trials.specs.session_lines.declared.end.End.{End}
+use Rattle.trial_runs.specs.session_lines.declared.end.End.{End}
 use Rattle.cryfs_shell.proofs.Statuses.{EndCause}
 use Rattle.cryfs_shell.proofs.TrialEnds.{reported_cause}
 

@@ -3,18 +3,18 @@ use Rattle.std.proofs.Common.{◌≡◌, ◌≢◌, ℕ, true, List, sym, ap, su
 use Rattle.std.specs.declared.option.Option.{Option}
 use Rattle.std.specs.declared.option.Option.TheVariants.{None, Some}
 use Rattle.fs_model.specs.Instant.{Instant}
-use Rattle.plain_trials.specs.line_io.Streams.{Untouched}
+use Rattle.trial_runs.specs.line_io.Streams.{Untouched}
 use Rattle.outside.specs.Trace.{Call}
 use Rattle.outside.specs.declared.keeper.Keeper.{Ghosts as KeeperGhosts}
-use Rattle.histories.specs.passwords.Passwords.{PasswordUnread, PasswordsUnread}
+use Rattle.session_laws.specs.run_frame.Passwords.{PasswordUnread, PasswordsUnread}
 use Rattle.run_status.specs.declared.ended.Ended.{Ended}
 use Rattle.run_status.specs.declared.status.Status.{Status}
 use Rattle.run_status.specs.declared.status.Status.TheVariants.{Done, Usage, Violation, DirectoryFault, StateFault, InputFault, OutputFault, Memory, HostFault}
-use Rattle.check_runs.specs.session_runs.Openings.{AreUncalled, IsUnread}
-use Rattle.check_runs.specs.session_runs.Runs.{outside_of}
-use Rattle.shell_words.specs.declared.form.Form.{Form}
-use Rattle.shell_words.specs.declared.form.Form.TheVariants.{Trial, TrialGenerate, Create, Info, Passwd, Migrate, Shell, Generate, Command, Import, Export, Put, Get, Check, Survey}
-use Rattle.shell_words.specs.Forms.{takes_memory}
+use Rattle.session_laws.specs.Openings.{AreUncalled, IsUnread}
+use Rattle.session_laws.specs.Runs.{outside_of}
+use Rattle.program_words.specs.declared.form.Form.{Form}
+use Rattle.program_words.specs.declared.form.Form.TheVariants.{Trial, TrialGenerate, Create, Info, Passwd, Migrate, Shell, Generate, Command, Import, Export, Put, Get, Check, Survey}
+use Rattle.program_words.specs.Forms.{takes_memory}
 use Rattle.cryfs_shell.specs.Clauses.{IsRefusingStatus, IsRefusedRun, NoFalseAlarm, KeepsTree, TellsFaults, StatusSays}
 use Rattle.cryfs_shell.specs.Doing.{Did}
 use Rattle.cryfs_shell.specs.History.{Comes, Judges, Meets, HasHistory}

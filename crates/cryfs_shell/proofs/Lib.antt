@@ -17,4 +17,4 @@ mod Asked
 pub use Rattle.check_runs.proofs as check_runs_lemmas
 pub use Rattle.check_runs.proofs.mount_lemmas as mount_lemmas
 pub use Rattle.check_runs.proofs.mount_calls_lemmas as mount_calls_lemmas
-pub use Rattle.check_runs.proofs.mount_tower_lemmas as mount_tower_lemmas
+pub use Rattle.check_runs.proofs.mount_stores_lemmas as mount_stores_lemmas

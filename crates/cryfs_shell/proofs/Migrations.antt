@@ -3,35 +3,35 @@ use Rattle.std.proofs.Common.{◌≡◌, ◌≢◌, ◌⊎◌, ◌+◌, ℕ, Boo
 use Rattle.std.specs.Prelude.{Result}
 use Rattle.std.specs.declared.option.Option.{Option}
 use Rattle.std.specs.declared.result.Result.TheVariants.{Ok, Err}
-use Rattle.plain_trials.specs.answers.Sessions.{is_violation, directory_faults, state_faults}
-use Rattle.histories.specs.config_file.Settings.{Settings}
-use Rattle.check_runs.specs.cryfs_setup.Migrate.{RanMigrate, IsMigrated}
+use Rattle.trial_runs.specs.answers.Sessions.{is_violation, directory_faults, state_faults}
+use Rattle.session_laws.specs.config_file.Settings.{Settings}
+use Rattle.check_runs.specs.setup_runs.Migrate.{RanMigrate, IsMigrated}
 use Rattle.cryfs_shell.specs.Clauses.{IsRefusedRun, NoFalseAlarm, KeepsTree, FaultsHappened}
 use Rattle.cryfs_shell.proofs.Statuses.{IsOfOpening, opening_is_no, session_directory, session_state, session_input, session_output, session_is_no, calm_is_no_alarm}
 use Rattle.cryfs_shell.proofs.Sessions.{one_unread, unread_is_no, unread_faults, unread_refusal, unread_keeps, opens_under, only_under, unopened_faults, unopened_refusal, unopened_alarm, unopened_keeps, rose_grown}
 use Rattle.cryfs_shell.proofs.TrialEnds.{reported_cause}
 use Rattle.fs_model.specs.Tree.{Tree}
-use Rattle.histories.specs.held_blocks.Standing.{records}
-use Rattle.plain_trials.specs.line_io.Streams.{Stream}
+use Rattle.session_laws.specs.block_versions.Standing.{records}
+use Rattle.trial_runs.specs.line_io.Streams.{Stream}
 use Rattle.check_runs.specs.mount_core.Standing.{IsKeptMarked}
 use Rattle.check_runs.specs.mount_migrating.Migrating.{told}
 use Rattle.check_runs.specs.mount_migrating.declared.error.MigrateError.{MigrateError}
 use Rattle.check_runs.specs.mount_migrating.declared.error.MigrateError.TheVariants as error
 use Rattle.outside.specs.Trace.{Call}
 use Rattle.outside.specs.declared.keeper.Keeper.{Ghosts as KeeperGhosts}
-use Rattle.histories.specs.passwords.Passwords.{PasswordUnread}
-use Rattle.histories.specs.run_edges.Statuses.{session_status}
+use Rattle.session_laws.specs.run_frame.Passwords.{PasswordUnread}
+use Rattle.session_laws.specs.run_frame.Statuses.{session_status}
 use Rattle.run_status.specs.Statuses.{first_of}
 use Rattle.run_status.specs.declared.ended.Ended.{Ended}
 use Rattle.run_status.specs.declared.status.Status.{Status}
 use Rattle.run_status.specs.declared.status.Status.TheVariants.{Done, Usage, LongPassword, Violation, HostFault, Memory}
-use Rattle.plain_trials.specs.session_lines.declared.end.End.{End}
-use Rattle.plain_trials.specs.session_lines.declared.end.End.TheVariants as line_end
-use Rattle.check_runs.proofs.session_runs_lemmas.Whole.{only_opens}
-use Rattle.check_runs.specs.session_runs.Openings.{AreUncalled}
-use Rattle.check_runs.specs.session_runs.Runs.{OutsideStandsFor, outside_of, IsFounded, directory_fault, state_fault}
-use Rattle.histories.specs.session_saver.declared.saver.SyncError.{SyncError}
-use Rattle.histories.specs.session_saver.declared.saver.SyncError.TheVariants as sync_error
+use Rattle.trial_runs.specs.session_lines.declared.end.End.{End}
+use Rattle.trial_runs.specs.session_lines.declared.end.End.TheVariants as line_end
+use Rattle.session_laws.proofs.Whole.{only_opens}
+use Rattle.session_laws.specs.Openings.{AreUncalled}
+use Rattle.session_laws.specs.Runs.{OutsideStandsFor, outside_of, IsFounded, directory_fault, state_fault}
+use Rattle.session_laws.specs.record_saver.declared.saver.SyncError.{SyncError}
+use Rattle.session_laws.specs.record_saver.declared.saver.SyncError.TheVariants as sync_error
 use Rattle.check_runs.specs.mount_core.Showing.{ShowsFiles}
 
 -- it has no status of its own

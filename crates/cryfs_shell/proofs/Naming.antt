@@ -5,57 +5,57 @@ use Rattle.std.specs.declared.option.Option.{Option}
 use Rattle.std.specs.declared.option.Option.TheVariants.{None, Some}
 use Rattle.std.specs.declared.result.Result.TheVariants.{Ok, Err}
 use Rattle.rand_core.specs.Stream.{Stream as Chance}
-use Rattle.plain_trials.specs.answers.declared.answer.Answer.{Answer}
-use Rattle.copy_runs.specs.copy_rules.declared.copied.Totals.{Totals}
-use Rattle.copy_runs.specs.copy_rules.Questions.{Question}
+use Rattle.trial_runs.specs.answers.declared.answer.Answer.{Answer}
+use Rattle.copy_runs.specs.copy_laws.declared.copied.Totals.{Totals}
+use Rattle.copy_runs.specs.copy_laws.Questions.{Question}
 use Rattle.copy_runs.specs.copy_sessions.Fitting.{kept_after}
-use Rattle.copy_runs.specs.file_copies.Coming.{IsPutTold, IsPutSession, IsGetEnd, IsGetSession}
-use Rattle.copy_runs.specs.file_copies.Getting.{IsGet}
-use Rattle.copy_runs.specs.file_copies.Putting.{InputBy}
+use Rattle.copy_runs.specs.copy_file.Coming.{IsPutTold, IsPutSession, IsGetEnd, IsGetSession}
+use Rattle.copy_runs.specs.copy_file.Getting.{IsGet}
+use Rattle.copy_runs.specs.copy_file.Putting.{InputBy}
 use Rattle.copy_runs.specs.host_folder.Folders.{HostPath}
-use Rattle.copy_runs.specs.row_copy.declared.stop.Stop.{Stop}
-use Rattle.copy_runs.specs.row_copy.declared.stop.Stop.TheVariants as stop
-use Rattle.plain_trials.specs.answers.Sessions.{Exchange, is_violation, violated}
+use Rattle.copy_runs.specs.copy_row.declared.stop.Stop.{Stop}
+use Rattle.copy_runs.specs.copy_row.declared.stop.Stop.TheVariants as stop
+use Rattle.trial_runs.specs.answers.Sessions.{Exchange, is_violation, violated}
 use Rattle.check_runs.specs.mount_migrating.Migrating.{told}
 use Rattle.block_id.specs.declared.id.BlockId.{BlockId}
 use Rattle.check_runs.specs.Running.{RanCheck}
 use Rattle.check_runs.specs.SurveyRuns.{RanSurvey}
 use Rattle.check_runs.proofs.Leaving.{directory_quiet}
 use Rattle.check_runs.proofs.SurveyLeaving as surveys
-use Rattle.check_runs.specs.cryfs_setup.Create.{RanCreate}
-use Rattle.check_runs.specs.setup_texts.CreateText.{Reports as CreateReports}
-use Rattle.check_runs.specs.cryfs_setup.Info.{Told}
-use Rattle.check_runs.specs.cryfs_setup.Migrate.{RanMigrate}
-use Rattle.check_runs.specs.cryfs_setup.Passwd.{RanPasswd}
-use Rattle.check_runs.specs.setup_texts.PasswdText.{Reports as ChangeReports}
-use Rattle.check_runs.specs.setup_texts.Printing.{Printed}
-use Rattle.check_runs.proofs.cryfs_setup_lemmas.Ending.{ends}
+use Rattle.check_runs.specs.setup_runs.Create.{RanCreate}
+use Rattle.check_runs.specs.setup_runs.CreateText.{Reports as CreateReports}
+use Rattle.check_runs.specs.setup_runs.Info.{Told}
+use Rattle.check_runs.specs.setup_runs.Migrate.{RanMigrate}
+use Rattle.check_runs.specs.setup_runs.Passwd.{RanPasswd}
+use Rattle.check_runs.specs.setup_runs.PasswdText.{Reports as ChangeReports}
+use Rattle.check_runs.specs.setup_runs.Printing.{Printed}
+use Rattle.check_runs.proofs.setup_runs_lemmas.Ending.{ends}
 use Rattle.fs_model.specs.Instant.{Instant}
-use Rattle.plain_trials.specs.line_io.Streams.{Stream, Untouched}
-use Rattle.check_runs.specs.mount_tower.Drawing.{drawn}
-use Rattle.check_runs.specs.mount_tower.declared.draws.Draws.{Draws}
-use Rattle.check_runs.specs.mount_tower.declared.error.OpenError.{OpenError}
-use Rattle.check_runs.specs.mount_tower.declared.error.OpenError.TheVariants.{FaultDirectory, FaultState}
+use Rattle.trial_runs.specs.line_io.Streams.{Stream, Untouched}
+use Rattle.check_runs.specs.mount_stores.Drawing.{drawn}
+use Rattle.check_runs.specs.mount_stores.declared.draws.Draws.{Draws}
+use Rattle.check_runs.specs.mount_stores.declared.error.OpenError.{OpenError}
+use Rattle.check_runs.specs.mount_stores.declared.error.OpenError.TheVariants.{FaultDirectory, FaultState}
 use Rattle.outside.specs.Trace.{Call}
 use Rattle.outside.specs.declared.keeper.Keeper.{Ghosts as KeeperGhosts}
-use Rattle.histories.specs.passwords.Passwords.{PasswordUnread, PasswordsUnread}
-use Rattle.check_runs.specs.session_runs.Openings.{AreUncalled, IsUnread, IsUnopened}
+use Rattle.session_laws.specs.run_frame.Passwords.{PasswordUnread, PasswordsUnread}
+use Rattle.session_laws.specs.Openings.{AreUncalled, IsUnread, IsUnopened}
 use Rattle.run_status.specs.Statuses.{first_of}
-use Rattle.histories.specs.run_edges.Statuses.{opening_status, closing_status, session_status}
+use Rattle.session_laws.specs.run_frame.Statuses.{opening_status, closing_status, session_status}
 use Rattle.run_status.specs.declared.ended.Ended.{Ended}
 use Rattle.run_status.specs.declared.status.Status.{Status}
 use Rattle.run_status.specs.declared.status.Status.TheVariants.{Done, LongPassword, DirectoryFault, StateFault, InputFault, OutputFault, Memory}
 use Rattle.scrypt_kdf.specs.Cost.{Cost}
-use Rattle.plain_trials.specs.session_lines.Driven.{EndsAs, Reported, IsUnfailed}
-use Rattle.plain_trials.specs.session_lines.declared.end.End.{End}
-use Rattle.plain_trials.specs.session_lines.declared.end.End.TheVariants as line_end
-use Rattle.check_runs.specs.session_runs.Runs.{outside_of, directory_fault, state_fault}
-use Rattle.histories.specs.session_saver.declared.saver.SyncError.{SyncError}
-use Rattle.histories.specs.session_saver.declared.saver.SyncError.TheVariants as sync_error
-use Rattle.copy_runs.specs.shell_sessions.Sessions.{Session, ComesShell, ComesGenerated, ComesCommand}
-use Rattle.shell_words.specs.declared.form.Form.{Form}
-use Rattle.shell_words.specs.declared.form.Form.TheVariants.{Trial, TrialGenerate, Create, Info, Passwd, Migrate, Shell, Generate, Command, Import, Export, Put, Get, Check, Survey}
-use Rattle.shell_words.specs.Forms.{joined}
+use Rattle.trial_runs.specs.session_lines.Driven.{EndsAs, Reported, IsUnfailed}
+use Rattle.trial_runs.specs.session_lines.declared.end.End.{End}
+use Rattle.trial_runs.specs.session_lines.declared.end.End.TheVariants as line_end
+use Rattle.session_laws.specs.Runs.{outside_of, directory_fault, state_fault}
+use Rattle.session_laws.specs.record_saver.declared.saver.SyncError.{SyncError}
+use Rattle.session_laws.specs.record_saver.declared.saver.SyncError.TheVariants as sync_error
+use Rattle.copy_runs.specs.shell_runs.Sessions.{Session, ComesShell, ComesGenerated, ComesCommand}
+use Rattle.program_words.specs.declared.form.Form.{Form}
+use Rattle.program_words.specs.declared.form.Form.TheVariants.{Trial, TrialGenerate, Create, Info, Passwd, Migrate, Shell, Generate, Command, Import, Export, Put, Get, Check, Survey}
+use Rattle.program_words.specs.Forms.{joined}
 use Rattle.cryfs_shell.proofs.Checks.{state_named, output_named}
 use Rattle.cryfs_shell.proofs.Migrations.{memory_named, or_done}
 use Rattle.cryfs_shell.specs.Clauses.{FaultsNamed, MayHide, MayHideState, StreamFaultsNamed}
@@ -64,7 +64,7 @@ use Rattle.cryfs_shell.specs.Doing.{Did}
 use Rattle.cryfs_shell.specs.Hosts.{HostSeen}
 use Rattle.cryfs_shell.specs.Kinds.{is_session}
 use Rattle.cryfs_shell.specs.Streams.{Streams}
-use Rattle.plain_trials.specs.Runs.{Tried, GeneratedOnPlain, status_of}
+use Rattle.trial_runs.specs.Runs.{Tried, GeneratedOnPlain, status_of}
 
 -- ---- the change of a password
 

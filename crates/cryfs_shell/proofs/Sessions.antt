@@ -2,32 +2,32 @@
 use Rattle.std.proofs.Common.{◌≡◌, ◌≢◌, ◌⊎◌, ◌≤◌, ◌+◌, ◌∙◌, ℕ, Bool, false, List, sym, ap, subst, inl, inr, arith}
 use Rattle.std.specs.declared.option.Option.{Option}
 use Rattle.std.specs.declared.option.Option.TheVariants.{Some}
-use Rattle.plain_trials.specs.answers.Sessions.{Exchange, violated, all_directory_faults, all_state_faults}
-use Rattle.histories.specs.config_file.Settings.{Settings}
+use Rattle.trial_runs.specs.answers.Sessions.{Exchange, violated, all_directory_faults, all_state_faults}
+use Rattle.session_laws.specs.config_file.Settings.{Settings}
 use Rattle.fs_model.specs.Instant.{Instant}
 use Rattle.fs_model.specs.Tree.{Tree}
-use Rattle.histories.specs.held_blocks.Standing.{records}
-use Rattle.plain_trials.specs.line_io.Lines.{first_of, first_line}
-use Rattle.plain_trials.specs.line_io.Streams.{Stream, Untouched}
-use Rattle.check_runs.specs.mount_tower.Identities.{HasEmptyList}
-use Rattle.check_runs.specs.mount_tower.declared.error.OpenError.{OpenError}
+use Rattle.session_laws.specs.block_versions.Standing.{records}
+use Rattle.trial_runs.specs.line_io.Lines.{first_of, first_line}
+use Rattle.trial_runs.specs.line_io.Streams.{Stream, Untouched}
+use Rattle.check_runs.specs.mount_stores.Identities.{HasEmptyList}
+use Rattle.check_runs.specs.mount_stores.declared.error.OpenError.{OpenError}
 use Rattle.check_runs.proofs.mount_lemmas.Reading.{loaded_unmarked}
 use Rattle.check_runs.specs.mount_core.Standing.{IsKeptMarked}
 use Rattle.outside.specs.Causes.{RoseBy}
 use Rattle.outside.specs.Trace.{Call}
 use Rattle.outside.specs.declared.keeper.Keeper.{Ghosts as KeeperGhosts}
-use Rattle.histories.specs.passwords.Passwords.{InputFailed, IsNextPassword, PasswordUnread, PasswordsUnread}
-use Rattle.check_runs.specs.session_runs.Openings.{AreUncalled, IsUnread, IsUnopened}
-use Rattle.check_runs.proofs.session_runs_lemmas.Unopened.{caused}
+use Rattle.session_laws.specs.run_frame.Passwords.{InputFailed, IsNextPassword, PasswordUnread, PasswordsUnread}
+use Rattle.session_laws.specs.Openings.{AreUncalled, IsUnread, IsUnopened}
+use Rattle.session_laws.proofs.Unopened.{caused}
 use Rattle.run_status.specs.declared.ended.Ended.{Ended}
 use Rattle.run_status.specs.declared.status.Status.{Status}
 use Rattle.run_status.specs.declared.status.Status.TheVariants.{Done, Usage, LongPassword, Violation, DirectoryFault, StateFault, InputFault, OutputFault, Memory, HostFault}
-use Rattle.plain_trials.specs.session_lines.declared.end.End.{End}
-use Rattle.check_runs.specs.session_runs.Runs.{Outside, outside_of, OutsideStandsFor, OpensTo, OpensOnlyTo, directory_fault, state_fault}
-use Rattle.check_runs.proofs.session_runs_lemmas.Whole.{only_opens, unviolated}
-use Rattle.copy_runs.specs.shell_sessions.Sessions.{Session, IsServed}
-use Rattle.histories.specs.run_edges.Statuses.{session_status, IsOwn}
-use Rattle.histories.proofs.run_edges_lemmas.Owns.{not_own, none_before}
+use Rattle.trial_runs.specs.session_lines.declared.end.End.{End}
+use Rattle.session_laws.specs.Runs.{Outside, outside_of, OutsideStandsFor, OpensTo, OpensOnlyTo, directory_fault, state_fault}
+use Rattle.session_laws.proofs.Whole.{only_opens, unviolated}
+use Rattle.copy_runs.specs.shell_runs.Sessions.{Session, IsServed}
+use Rattle.session_laws.specs.run_frame.Statuses.{session_status, IsOwn}
+use Rattle.session_laws.proofs.run_frame_lemmas.Owns.{not_own, none_before}
 use Rattle.check_runs.specs.mount_core.Showing.{ShowsFiles}
 use Rattle.cryfs_shell.specs.Clauses.{IsRefusingStatus, IsRefusedRun, IsOpenedRun, OpensOnlyRun, NoFalseAlarm, KeepsTree, FaultsHappened, IsEmptied}
 use Rattle.cryfs_shell.proofs.Statuses.{EndCause, opening_is_no, session_is_no, stops_is_refusal, session_directory, session_state, session_input, session_output, done_is_calm, done_is_closed, calm_is_no_alarm, host_is_own}

@@ -5,32 +5,32 @@ use Rattle.std.specs.declared.option.Option.{Option}
 use Rattle.std.specs.declared.result.Result.TheVariants.{Ok, Err}
 use Rattle.rand_core.specs.Stream.{Stream as Chance}
 use Rattle.block_id.specs.declared.id.BlockId.{BlockId}
-use Rattle.check_runs.specs.cryfs_setup.Create.{RanCreate}
-use Rattle.check_runs.specs.setup_texts.CreateText.{Reports as CreateReports, created_text}
-use Rattle.check_runs.specs.cryfs_setup.Info.{Told}
-use Rattle.check_runs.specs.cryfs_setup.Passwd.{RanPasswd, IsChanged}
-use Rattle.check_runs.specs.setup_texts.PasswdText.{Reports as ChangeReports, changed_text}
-use Rattle.check_runs.specs.setup_texts.Printing.{Printed}
-use Rattle.check_runs.proofs.cryfs_setup_lemmas.Ending.{ends}
-use Rattle.histories.specs.held_blocks.Standing.{records}
-use Rattle.plain_trials.specs.line_io.Streams.{Stream, HasFailed}
-use Rattle.check_runs.specs.mount_tower.declared.draws.Draws.{Draws}
-use Rattle.check_runs.specs.mount_tower.declared.error.OpenError.{OpenError}
-use Rattle.check_runs.specs.mount_tower.declared.error.OpenError.TheVariants as open_error
-use Rattle.check_runs.specs.mount_tower.Making.{CreateCause}
+use Rattle.check_runs.specs.setup_runs.Create.{RanCreate}
+use Rattle.check_runs.specs.setup_runs.CreateText.{Reports as CreateReports, created_text}
+use Rattle.check_runs.specs.setup_runs.Info.{Told}
+use Rattle.check_runs.specs.setup_runs.Passwd.{RanPasswd, IsChanged}
+use Rattle.check_runs.specs.setup_runs.PasswdText.{Reports as ChangeReports, changed_text}
+use Rattle.check_runs.specs.setup_runs.Printing.{Printed}
+use Rattle.check_runs.proofs.setup_runs_lemmas.Ending.{ends}
+use Rattle.session_laws.specs.block_versions.Standing.{records}
+use Rattle.trial_runs.specs.line_io.Streams.{Stream, HasFailed}
+use Rattle.check_runs.specs.mount_stores.declared.draws.Draws.{Draws}
+use Rattle.check_runs.specs.mount_stores.declared.error.OpenError.{OpenError}
+use Rattle.check_runs.specs.mount_stores.declared.error.OpenError.TheVariants as open_error
+use Rattle.check_runs.specs.mount_stores.Making.{CreateCause}
 use Rattle.check_runs.specs.mount_core.Standing.{IsKeptMarked}
 use Rattle.outside.specs.Trace.{Call}
 use Rattle.outside.specs.declared.keeper.Keeper.{Ghosts as KeeperGhosts}
-use Rattle.histories.specs.passwords.Passwords.{PasswordUnread, PasswordsUnread}
-use Rattle.check_runs.specs.session_runs.Openings.{AreUncalled, HasCauses}
-use Rattle.histories.specs.run_edges.Statuses.{opening_status, closing_status}
+use Rattle.session_laws.specs.run_frame.Passwords.{PasswordUnread, PasswordsUnread}
+use Rattle.session_laws.specs.Openings.{AreUncalled, HasCauses}
+use Rattle.session_laws.specs.run_frame.Statuses.{opening_status, closing_status}
 use Rattle.run_status.specs.declared.ended.Ended.{Ended}
 use Rattle.run_status.specs.declared.status.Status.{Status}
 use Rattle.run_status.specs.declared.status.Status.TheVariants.{Done, Usage, LongPassword, Violation, InputFault, OutputFault, HostFault}
 use Rattle.scrypt_kdf.specs.Cost.{Cost}
-use Rattle.check_runs.specs.session_runs.Runs.{outside_of}
-use Rattle.histories.specs.session_saver.declared.saver.SyncError.{SyncError}
-use Rattle.histories.specs.session_saver.declared.saver.SyncError.TheVariants as sync_error
+use Rattle.session_laws.specs.Runs.{outside_of}
+use Rattle.session_laws.specs.record_saver.declared.saver.SyncError.{SyncError}
+use Rattle.session_laws.specs.record_saver.declared.saver.SyncError.TheVariants as sync_error
 use Rattle.cryfs_shell.specs.Clauses.{IsRefusedRun, NoFalseAlarm, KeepsTree, FaultsHappened}
 use Rattle.cryfs_shell.proofs.Statuses.{IsOfOpening, opening_is_no}
 use Rattle.cryfs_shell.proofs.Sessions.{IsUnreadStatus, one_unread, two_unread, unread_is_no, unread_faults, unread_refusal, unread_keeps, opens_under, unopened_faults, unopened_refusal, unopened_alarm, unopened_keeps, grown}

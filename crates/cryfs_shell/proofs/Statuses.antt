@@ -2,23 +2,23 @@
 use Rattle.std.proofs.Common.{◌≡◌, ◌≢◌, ◌+◌, ℕ, Bool, true, false, refl, sym, ◌∙◌, subst, arith}
 use Rattle.std.specs.Prelude.{Result, OnOk}
 use Rattle.std.specs.declared.result.Result.TheVariants.{Ok, Err}
-use Rattle.histories.specs.config_file.declared.error.ConfigError.TheVariants as config_error
-use Rattle.plain_trials.specs.line_io.Streams.{Stream, HasFailed}
-use Rattle.histories.specs.passwords.Passwords.{InputFailed}
+use Rattle.session_laws.specs.config_file.declared.error.ConfigError.TheVariants as config_error
+use Rattle.trial_runs.specs.line_io.Streams.{Stream, HasFailed}
+use Rattle.session_laws.specs.run_frame.Passwords.{InputFailed}
 use Rattle.check_runs.specs.mount.Mounts.{StopsMarked}
-use Rattle.check_runs.specs.mount_tower.declared.error.OpenError.{OpenError}
-use Rattle.check_runs.specs.mount_tower.declared.error.OpenError.TheVariants.{Memory as NoMemory, NoState, BadState, Exists, Marked, Mismatch, NoConfig, Config as OfConfig, FaultDirectory, FaultState}
+use Rattle.check_runs.specs.mount_stores.declared.error.OpenError.{OpenError}
+use Rattle.check_runs.specs.mount_stores.declared.error.OpenError.TheVariants.{Memory as NoMemory, NoState, BadState, Exists, Marked, Mismatch, NoConfig, Config as OfConfig, FaultDirectory, FaultState}
 use Rattle.outside.specs.Causes.{RoseBy}
 use Rattle.run_status.specs.Statuses.{first_of}
 use Rattle.run_status.specs.declared.status.Status.{Status}
 use Rattle.run_status.specs.declared.status.Status.TheVariants.{Done, Usage, LongPassword, Violation, DirectoryFault, StateFault, InputFault, OutputFault, HostFault}
-use Rattle.plain_trials.specs.session_lines.declared.end.End.{End}
-use Rattle.plain_trials.specs.session_lines.declared.end.End.TheVariants as line_end
-use Rattle.check_runs.specs.session_runs.Runs.{directory_fault, state_fault}
-use Rattle.histories.specs.session_saver.declared.saver.SyncError.{SyncError}
-use Rattle.histories.specs.session_saver.declared.saver.SyncError.TheVariants as sync_error
-use Rattle.histories.specs.run_edges.Statuses.{opening_status, session_status, IsOwn}
-use Rattle.histories.proofs.run_edges_lemmas.Owns.{not_own, is_own}
+use Rattle.trial_runs.specs.session_lines.declared.end.End.{End}
+use Rattle.trial_runs.specs.session_lines.declared.end.End.TheVariants as line_end
+use Rattle.session_laws.specs.Runs.{directory_fault, state_fault}
+use Rattle.session_laws.specs.record_saver.declared.saver.SyncError.{SyncError}
+use Rattle.session_laws.specs.record_saver.declared.saver.SyncError.TheVariants as sync_error
+use Rattle.session_laws.specs.run_frame.Statuses.{opening_status, session_status, IsOwn}
+use Rattle.session_laws.proofs.run_frame_lemmas.Owns.{not_own, is_own}
 use Rattle.cryfs_shell.specs.Clauses.{IsRefusingStatus}
 
 -- ---- a file system that wasn't opened

@@ -7,18 +7,18 @@ use Rattle.check_runs.proofs.SurveyLeaving.{survey_status, survey_failed, no_ala
 use Rattle.cryfs_shell.specs.Clauses.{IsRefusedRun, NoFalseAlarm, KeepsTree, FaultsHappened}
 use Rattle.cryfs_shell.proofs.Statuses.{IsOfOpening, opening_is_no}
 use Rattle.cryfs_shell.proofs.Sessions.{IsUnreadStatus, one_unread, unread_is_no, unread_faults, unread_refusal, unread_keeps, opens_under, only_under, unopened_faults, unopened_refusal, unopened_alarm, unopened_keeps, grown}
-use Rattle.histories.specs.held_blocks.Standing.{records}
-use Rattle.plain_trials.specs.line_io.Streams.{Stream}
+use Rattle.session_laws.specs.block_versions.Standing.{records}
+use Rattle.trial_runs.specs.line_io.Streams.{Stream}
 use Rattle.check_runs.specs.mount_core.Standing.{IsKeptMarked}
 use Rattle.outside.specs.Trace.{Call}
 use Rattle.outside.specs.declared.keeper.Keeper.{Ghosts as KeeperGhosts}
-use Rattle.histories.specs.passwords.Passwords.{PasswordUnread}
+use Rattle.session_laws.specs.run_frame.Passwords.{PasswordUnread}
 use Rattle.run_status.specs.declared.ended.Ended.{Ended}
 use Rattle.run_status.specs.declared.status.Status.{Status}
 use Rattle.run_status.specs.declared.status.Status.TheVariants.{Usage, LongPassword, Violation, HostFault}
-use Rattle.check_runs.proofs.session_runs_lemmas.Whole.{only_opens}
-use Rattle.check_runs.specs.session_runs.Openings.{AreUncalled, HasCauses}
-use Rattle.check_runs.specs.session_runs.Runs.{outside_of}
+use Rattle.session_laws.proofs.Whole.{only_opens}
+use Rattle.session_laws.specs.Openings.{AreUncalled, HasCauses}
+use Rattle.session_laws.specs.Runs.{outside_of}
 use Rattle.check_runs.specs.mount_core.Showing.{ShowsFiles}
 
 of_survey : {V : Type 0} {K : Type 0} (trace : V → Option (List Call)) (faults : V → ℕ) (names : V → Option (List (List ℕ))) (G : KeeperGhosts K) (password : List ℕ) (output : Stream) (vault : V) (keeper : K) (ended : Ended V K)

@@ -1,22 +1,22 @@
 -- Why lines ended, and what holds of each run on a plain tree.
 use Rattle.std.proofs.Common.{◌≡◌, ℕ, List, sym, ap, subst, inl, inr}
 use Rattle.std.specs.declared.option.Option.{Option}
-use Rattle.plain_trials.specs.answers.Sessions.{Exchange}
+use Rattle.trial_runs.specs.answers.Sessions.{Exchange}
 use Rattle.fs_model.specs.Instant.{Instant}
-use Rattle.plain_trials.specs.line_io.Streams.{Stream, HasFailed}
+use Rattle.trial_runs.specs.line_io.Streams.{Stream, HasFailed}
 use Rattle.outside.specs.Trace.{Call}
 use Rattle.outside.specs.declared.keeper.Keeper.{Ghosts as KeeperGhosts}
-use Rattle.histories.specs.passwords.Passwords.{InputFailed}
-use Rattle.check_runs.specs.session_runs.Openings.{AreUncalled}
+use Rattle.session_laws.specs.run_frame.Passwords.{InputFailed}
+use Rattle.session_laws.specs.Openings.{AreUncalled}
 use Rattle.run_status.specs.declared.ended.Ended.{Ended}
 use Rattle.run_status.specs.declared.status.Status.{Status}
 use Rattle.run_status.specs.declared.status.Status.TheVariants.{Done, DirectoryFault, StateFault, InputFault, OutputFault, Memory}
-use Rattle.plain_trials.specs.session_lines.Driven.{EndsAs, Reported}
-use Rattle.plain_trials.specs.session_lines.declared.end.End.{End}
-use Rattle.plain_trials.specs.session_lines.declared.end.End.TheVariants as line_end
-use Rattle.check_runs.specs.session_runs.Runs.{outside_of}
+use Rattle.trial_runs.specs.session_lines.Driven.{EndsAs, Reported}
+use Rattle.trial_runs.specs.session_lines.declared.end.End.{End}
+use Rattle.trial_runs.specs.session_lines.declared.end.End.TheVariants as line_end
+use Rattle.session_laws.specs.Runs.{outside_of}
 use Rattle.cryfs_shell.specs.Clauses.{FaultsHappened}
-use Rattle.plain_trials.specs.Runs.{Tried, GeneratedOnPlain, status_of}
+use Rattle.trial_runs.specs.Runs.{Tried, GeneratedOnPlain, status_of}
 use Rattle.cryfs_shell.proofs.Statuses.{EndCause}
 use Rattle.cryfs_shell.proofs.Sessions.{stays_grown}
 

@@ -2,26 +2,26 @@
 use Rattle.std.specs.Prelude.{◌≡◌, ◌≢◌, ◌⊎◌, ◌≤◌, ℕ, true, false, List}
 use Rattle.std.specs.declared.option.Option.{Option}
 use Rattle.std.specs.declared.option.Option.TheVariants.{None, Some}
-use Rattle.histories.specs.config_file.Settings.{Settings}
+use Rattle.session_laws.specs.config_file.Settings.{Settings}
 use Rattle.fs_model.specs.Tree.{Tree}
-use Rattle.histories.specs.held_blocks.Standing.{records}
-use Rattle.plain_trials.specs.line_io.Lines.{first_line}
-use Rattle.plain_trials.specs.line_io.Streams.{Stream, HasFailed, Untouched}
-use Rattle.check_runs.specs.mount_tower.Identities.{HasEmptyList}
+use Rattle.session_laws.specs.block_versions.Standing.{records}
+use Rattle.trial_runs.specs.line_io.Lines.{first_line}
+use Rattle.trial_runs.specs.line_io.Streams.{Stream, HasFailed, Untouched}
+use Rattle.check_runs.specs.mount_stores.Identities.{HasEmptyList}
 use Rattle.check_runs.specs.mount_core.Standing.{IsKeptMarked}
 use Rattle.outside.specs.Causes.{RoseBy}
 use Rattle.outside.specs.Trace.{Call}
 use Rattle.outside.specs.declared.keeper.Keeper.{Ghosts as KeeperGhosts}
-use Rattle.histories.specs.passwords.Passwords.{InputFailed}
+use Rattle.session_laws.specs.run_frame.Passwords.{InputFailed}
 use Rattle.run_status.specs.declared.ended.Ended.{Ended}
 use Rattle.run_status.specs.declared.status.Status.{Status}
 use Rattle.run_status.specs.declared.status.Status.TheVariants.{Done, Usage, LongPassword, Violation, DirectoryFault, StateFault, InputFault, OutputFault, Memory, HostFault}
-use Rattle.plain_trials.specs.session_lines.Driven.{IsUnfailed}
-use Rattle.check_runs.specs.session_runs.Openings.{AreUncalled}
-use Rattle.check_runs.specs.session_runs.Drawing.{DrawsAs}
-use Rattle.check_runs.specs.session_runs.Runs.{Outside, outside_of, OutsideStandsFor, OpensTo, OpensOnlyTo, forgeries, lies}
-use Rattle.shell_words.specs.declared.form.Form.{Form}
-use Rattle.shell_words.specs.declared.form.Form.TheVariants.{Passwd, Migrate, Check}
+use Rattle.trial_runs.specs.session_lines.Driven.{IsUnfailed}
+use Rattle.session_laws.specs.Openings.{AreUncalled}
+use Rattle.session_laws.specs.Drawing.{DrawsAs}
+use Rattle.session_laws.specs.Runs.{Outside, outside_of, OutsideStandsFor, OpensTo, OpensOnlyTo, forgeries, lies}
+use Rattle.program_words.specs.declared.form.Form.{Form}
+use Rattle.program_words.specs.declared.form.Form.TheVariants.{Passwd, Migrate, Check}
 use Rattle.cryfs_shell.specs.Hosts.{HostSeen}
 use Rattle.cryfs_shell.specs.Kinds.{is_session, is_migration, copies, draws, seals}
 use Rattle.cryfs_shell.specs.Streams.{Streams}

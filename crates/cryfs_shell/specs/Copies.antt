@@ -2,19 +2,19 @@
 use Rattle.std.specs.Prelude.{◌≡◌, ◌⊎◌, ℕ, List}
 use Rattle.std.specs.declared.option.Option.{Option}
 use Rattle.std.specs.declared.option.Option.TheVariants.{Some}
-use Rattle.plain_trials.specs.answers.Sessions.{Exchange}
+use Rattle.trial_runs.specs.answers.Sessions.{Exchange}
 use Rattle.copy_runs.specs.copy_sessions.Coming.{ComesImport, ComesExport}
-use Rattle.copy_runs.specs.file_copies.Coming.{ComesPut, ComesGet}
+use Rattle.copy_runs.specs.copy_file.Coming.{ComesPut, ComesGet}
 use Rattle.fs_model.specs.Instant.{Instant}
 use Rattle.copy_runs.specs.host_folder.Folders.{HostPath}
-use Rattle.plain_trials.specs.line_io.Streams.{Stream}
+use Rattle.trial_runs.specs.line_io.Streams.{Stream}
 use Rattle.outside.specs.Trace.{Call}
 use Rattle.outside.specs.declared.keeper.Keeper.{Ghosts as KeeperGhosts}
 use Rattle.run_status.specs.declared.ended.Ended.{Ended}
 use Rattle.run_status.specs.declared.status.Status.{Status}
-use Rattle.plain_trials.specs.session_lines.declared.end.End.{End}
-use Rattle.copy_runs.specs.shell_sessions.Sessions.{Session, WasServed}
-use Rattle.shell_words.specs.Forms.{copy_path}
+use Rattle.trial_runs.specs.session_lines.declared.end.End.{End}
+use Rattle.copy_runs.specs.shell_runs.Sessions.{Session, WasServed}
+use Rattle.program_words.specs.Forms.{copy_path}
 use Rattle.cryfs_shell.specs.Hosts.{HostSeen, IsStill}
 
 -- an import to the path that the words say; the folder stays

@@ -4,27 +4,27 @@ use Rattle.std.specs.declared.option.Option.{Option}
 use Rattle.std.specs.declared.option.Option.TheVariants.{None, Some}
 use Rattle.check_runs.specs.Running.{RanCheck}
 use Rattle.check_runs.specs.SurveyRuns.{RanSurvey}
-use Rattle.check_runs.specs.cryfs_setup.Create.{RanCreate}
-use Rattle.check_runs.specs.cryfs_setup.Info.{Told}
-use Rattle.check_runs.specs.cryfs_setup.Migrate.{RanMigrate}
-use Rattle.check_runs.specs.cryfs_setup.Passwd.{RanPasswd}
+use Rattle.check_runs.specs.setup_runs.Create.{RanCreate}
+use Rattle.check_runs.specs.setup_runs.Info.{Told}
+use Rattle.check_runs.specs.setup_runs.Migrate.{RanMigrate}
+use Rattle.check_runs.specs.setup_runs.Passwd.{RanPasswd}
 use Rattle.fs_model.specs.Instant.{Instant}
-use Rattle.plain_trials.specs.line_io.Streams.{Untouched}
-use Rattle.check_runs.specs.mount_tower.Drawing.{drawn}
+use Rattle.trial_runs.specs.line_io.Streams.{Untouched}
+use Rattle.check_runs.specs.mount_stores.Drawing.{drawn}
 use Rattle.outside.specs.Trace.{Call}
 use Rattle.outside.specs.declared.keeper.Keeper.{Ghosts as KeeperGhosts}
-use Rattle.check_runs.specs.session_runs.Openings.{AreUncalled, HasCauses}
+use Rattle.session_laws.specs.Openings.{AreUncalled, HasCauses}
 use Rattle.run_status.specs.declared.ended.Ended.{Ended}
 use Rattle.run_status.specs.declared.status.Status.{Status}
-use Rattle.check_runs.specs.session_runs.Runs.{Outside}
-use Rattle.copy_runs.specs.shell_sessions.Sessions.{Session, ComesShell, ComesGenerated, ComesCommand}
-use Rattle.shell_words.specs.declared.form.Form.{Form}
-use Rattle.shell_words.specs.declared.form.Form.TheVariants.{Trial, TrialGenerate, Create, Info, Passwd, Migrate, Shell, Generate, Command, Import, Export, Put, Get, Check, Survey}
-use Rattle.shell_words.specs.Forms.{joined}
+use Rattle.session_laws.specs.Runs.{Outside}
+use Rattle.copy_runs.specs.shell_runs.Sessions.{Session, ComesShell, ComesGenerated, ComesCommand}
+use Rattle.program_words.specs.declared.form.Form.{Form}
+use Rattle.program_words.specs.declared.form.Form.TheVariants.{Trial, TrialGenerate, Create, Info, Passwd, Migrate, Shell, Generate, Command, Import, Export, Put, Get, Check, Survey}
+use Rattle.program_words.specs.Forms.{joined}
 use Rattle.cryfs_shell.specs.Copies.{HostSession, Imports, Exports, Puts, Gets}
 use Rattle.cryfs_shell.specs.Kinds.{IsRefused}
 use Rattle.cryfs_shell.specs.Streams.{Streams}
-use Rattle.plain_trials.specs.Runs.{Tried, GeneratedOnPlain}
+use Rattle.trial_runs.specs.Runs.{Tried, GeneratedOnPlain}
 
 -- what a run did, by what its words ask for; words of no form are refused, and nothing is done
 abbrev pub Did : {V : Type 0} → {K : Type 0} → (V → Option (List Call)) → (V → ℕ) → (V → Option (List (List ℕ))) → KeeperGhosts K → List (List ℕ) → Instant → Streams → V → K → Ended V K → Option Form → Type 0

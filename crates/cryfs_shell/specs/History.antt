@@ -2,21 +2,21 @@
 use Rattle.std.specs.Prelude.{◌≡◌, ℕ, Bool, true, false, List}
 use Rattle.std.specs.declared.option.Option.{Option}
 use Rattle.std.specs.declared.option.Option.TheVariants.{Some}
-use Rattle.plain_trials.specs.answers.Sessions.{Exchange}
+use Rattle.trial_runs.specs.answers.Sessions.{Exchange}
 use Rattle.cryfs_shell.specs.Copies.{Imports, Exports, Puts, Gets}
 use Rattle.cryfs_shell.specs.Streams.{Streams}
 use Rattle.fs_model.specs.Instant.{Instant}
-use Rattle.histories.specs.Histories.{Run, session, quiet, examined, migrated, before_of, after_of, IsRun}
+use Rattle.session_laws.specs.Histories.{Run, session, quiet, examined, migrated, before_of, after_of, IsRun}
 use Rattle.run_status.specs.declared.status.Status.{Status}
 use Rattle.run_status.specs.declared.status.Status.TheVariants.{Violation}
-use Rattle.plain_trials.specs.line_io.Streams.{Stream}
-use Rattle.plain_trials.specs.session_lines.declared.end.End.{End}
-use Rattle.check_runs.specs.session_runs.Openings.{HasPassword}
-use Rattle.check_runs.specs.session_runs.Runs.{Outside}
-use Rattle.copy_runs.specs.shell_sessions.Sessions.{ComesShell, ComesGenerated, ComesCommand}
-use Rattle.shell_words.specs.declared.form.Form.{Form}
-use Rattle.shell_words.specs.declared.form.Form.TheVariants.{Migrate, Shell, Generate, Command, Import, Export, Put, Get, Check}
-use Rattle.shell_words.specs.Forms.{form_of, is_create, joined}
+use Rattle.trial_runs.specs.line_io.Streams.{Stream}
+use Rattle.trial_runs.specs.session_lines.declared.end.End.{End}
+use Rattle.session_laws.specs.Openings.{HasPassword}
+use Rattle.session_laws.specs.Runs.{Outside}
+use Rattle.copy_runs.specs.shell_runs.Sessions.{ComesShell, ComesGenerated, ComesCommand}
+use Rattle.program_words.specs.declared.form.Form.{Form}
+use Rattle.program_words.specs.declared.form.Form.TheVariants.{Migrate, Shell, Generate, Command, Import, Export, Put, Get, Check}
+use Rattle.program_words.specs.Forms.{form_of, is_create, joined}
 use Rattle.check_runs.specs.mount_core.Showing.{ShowsFiles}
 
 -- how the exchanges of what the words ask for come from what follows the password line, and are written; only sessions have some

@@ -4,9 +4,9 @@ use Rattle.std.specs.declared.option.Option.{Option}
 use Rattle.std.specs.declared.option.Option.TheVariants.{None, Some}
 use Rattle.run_status.specs.declared.status.Status.{Status}
 use Rattle.run_status.specs.declared.status.Status.TheVariants.{Usage, Memory}
-use Rattle.shell_words.specs.declared.form.Form.{Form}
-use Rattle.shell_words.specs.declared.form.Form.TheVariants.{Trial, TrialGenerate, Info, Passwd, Migrate, Shell, Generate, Command, Import, Export, Put, Get, Check, Survey}
-use Rattle.shell_words.specs.Forms.{takes_memory}
+use Rattle.program_words.specs.declared.form.Form.{Form}
+use Rattle.program_words.specs.declared.form.Form.TheVariants.{Trial, TrialGenerate, Info, Passwd, Migrate, Shell, Generate, Command, Import, Export, Put, Get, Check, Survey}
+use Rattle.program_words.specs.Forms.{takes_memory}
 
 -- words of no form are refused; where they begin with `create` or ask for a copy, memory may be refused while they are read
 abbrev pub IsRefused : List (List ℕ) → Status → Type 0

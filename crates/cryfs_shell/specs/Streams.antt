@@ -1,6 +1,6 @@
 -- What a run reads, writes, draws and copies, before it and after it.
 use Rattle.std.specs.Prelude.{◌≤◌}
-use Rattle.plain_trials.specs.line_io.Streams.{Stream}
+use Rattle.trial_runs.specs.line_io.Streams.{Stream}
 use Rattle.rand_core.specs.Stream.{Stream as Chance}
 use Rattle.cryfs_shell.specs.Hosts.{HostSeen}
 

@@ -9,7 +9,7 @@ pub use request::Request;
 pub use run_status::{Ended, Status, Storage};
 
 // Handed on to crates above, which needn't list them.
-pub use check_runs::listing;
+pub use check_runs::outside;
 pub use copy_runs::host_folder;
-pub use histories;
-pub use histories::{aes_gcm, config_file, local_state};
+pub use session_laws;
+pub use session_laws::{aes_gcm, config_file, local_state};

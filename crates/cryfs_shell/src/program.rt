@@ -2,13 +2,13 @@
 ghost use Rattle.std.specs.Prelude.{◌≡◌, ◌≤◌, true, false, map};
 ghost use Rattle.std.specs.declared.option.Option.TheVariants.{Some};
 ghost use Rattle.std.specs.String.{string_bytes};
-ghost use Rattle.histories.specs.held_blocks.Standing.{records};
-ghost use Rattle.plain_trials.specs.line_io.Streams.{stream_of};
+ghost use Rattle.session_laws.specs.block_versions.Standing.{records};
+ghost use Rattle.trial_runs.specs.line_io.Streams.{stream_of};
 ghost use Rattle.check_runs.specs.mount_core.Standing.{IsKeptMarked};
-ghost use Rattle.check_runs.specs.session_runs.Drawing.{DrawsVectors, DrawsAs};
-ghost use Rattle.check_runs.specs.session_runs.Runs.{outside_of};
-ghost use Rattle.copy_runs.specs.shell_sessions.Sessions.{Session, ComesCommand};
-ghost use Rattle.shell_words.specs.Forms.{form_of, joined, IsModest};
+ghost use Rattle.session_laws.specs.Drawing.{DrawsVectors, DrawsAs};
+ghost use Rattle.session_laws.specs.Runs.{outside_of};
+ghost use Rattle.copy_runs.specs.shell_runs.Sessions.{Session, ComesCommand};
+ghost use Rattle.program_words.specs.Forms.{form_of, joined, IsModest};
 ghost use Rattle.cryfs_shell.specs.Clauses.{IsRefusedRun, NoFalseAlarm, KeepsTree, TellsFaults, StatusSays, Spares};
 ghost use Rattle.cryfs_shell.specs.Copies.{HostSession, Imports, Exports, Puts, Gets};
 ghost use Rattle.cryfs_shell.specs.Doing.{Did, IsCaused};
@@ -19,19 +19,18 @@ ghost use Rattle.cryfs_shell.specs.Streams.{NoneFalls, streams_of};
 
 use crate::request::Request;
 use block_id::Memory;
-use check_runs::listing::Listing;
 use check_runs::{run_check, run_create, run_info, run_migrate, run_passwd, run_survey};
 use copy_runs::host_folder::Folder;
 use copy_runs::{
     CopyRequest, run_command, run_export, run_generate, run_get, run_import, run_put, run_shell,
 };
 use fs_model::Moment;
-use outside::{Keeper, Sink, Source, Vault};
-use plain_trials::{try_generated, try_lines};
+use outside::{Keeper, Listing, Sink, Source, Vault};
+use program_words::{CreateOptions, Form, copy_path, joined, read_form};
 use rand_core::Rng;
 use run_status::{Ended, Status, Storage};
-use shell_words::{CreateOptions, Form, copy_path, joined, read_form};
 use std::alloc::Global;
+use trial_runs::{try_generated, try_lines};
 
 /// Runs the program with the words of this request, at its moment, from this input to this output, over this block
 /// directory and this local record, with these random bytes, and beside this folder of the host for copies.

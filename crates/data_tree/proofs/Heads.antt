@@ -4,8 +4,8 @@ use Rattle.std.specs.Prelude.{true, Result, Ok, OnOk}
 use Rattle.block_id.specs.declared.fail.Fail.{Fail}
 use Rattle.data_nodes.specs.declared.head.Head.{Head}
 use Rattle.data_nodes.specs.Layout.{NodeText, inner, size_of}
-use Rattle.store_api.specs.outcome.Meanings.{Meanings, Lawful}
-use Rattle.store_api.specs.outcome.Outcome.{Outcome, sounded_}
+use Rattle.store_api.specs.store_outcome.Meanings.{Meanings, Lawful}
+use Rattle.store_api.specs.store_outcome.Outcome.{Outcome, sounded_}
 use Rattle.store_api.specs.declared.tx.Tx.{Tx}
 use Rattle.store_api.specs.Content.{Id, Content}
 use Rattle.store_api.specs.Holdings.{Holdings, Steady, Stays}

@@ -9,8 +9,8 @@ use Rattle.store_api.specs.Content.{Id, Content, Changes, or_else, over, same_id
 use Rattle.store_api.specs.Overlay.{without}
 use Rattle.store_api.specs.Holdings.{Holdings, Stays, has_id}
 use Rattle.data_tree.specs.Needs.{Sets, KeepsShape}
-use Rattle.store_api.specs.outcome.Meanings.{Meanings, Lawful}
-use Rattle.store_api.specs.outcome.Outcome.{Outcome, idle, no_memory}
+use Rattle.store_api.specs.store_outcome.Meanings.{Meanings, Lawful}
+use Rattle.store_api.specs.store_outcome.Outcome.{Outcome, idle, no_memory}
 use Rattle.block_id.specs.declared.fail.Fail.TheVariants.{Memory}
 use Rattle.store_api.specs.Overlay.{changed_over}
 use Rattle.store_api.proofs.Rising.{same_id_is}

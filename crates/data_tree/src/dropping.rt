@@ -1,7 +1,7 @@
 // Dropping a tree. Only inner nodes are loaded.
 ghost use Rattle.std.specs.Prelude.{◌≡◌, [], true, is_some};
 ghost use Rattle.std.specs.FinMap as fin;
-ghost use Rattle.store_api.specs.outcome.Outcome.{Outcome};
+ghost use Rattle.store_api.specs.store_outcome.Outcome.{Outcome};
 ghost use Rattle.store_api.specs.Content.{Id};
 ghost use Rattle.store_api.specs.Holdings.{Stays};
 ghost use Rattle.store_api.specs.Txs.{content_of, intact_in, tx_holdings, tx_meanings};

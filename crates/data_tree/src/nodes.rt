@@ -1,7 +1,7 @@
 // Nodes of a tree in the blocks of a store.
 ghost use Rattle.std.specs.FinMap as fin;
 ghost use Rattle.std.specs.Prelude.{◌≡◌, ◌+◌, ◌≤◌, ◌<◌, ◌^◌, ℕ, List, length, take, true, false, is_some, IfOk, IfErr, IfSome, IsSomeAnd, OnOk, None};
-ghost use Rattle.store_api.specs.outcome.Outcome.{Outcome};
+ghost use Rattle.store_api.specs.store_outcome.Outcome.{Outcome};
 ghost use Rattle.store_api.specs.Content.{Id};
 ghost use Rattle.store_api.specs.Holdings.{Stays};
 ghost use Rattle.store_api.specs.Txs.{LoadsBelow, content_of, intact_in, tx_holdings, tx_meanings};

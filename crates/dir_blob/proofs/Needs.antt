@@ -6,7 +6,7 @@ use Rattle.std.specs.Ordering.{eq_by_cmp}
 use Rattle.std.specs.Prelude.{Bool, cond}
 use Rattle.fs_model.proofs.TreeLemmas.{name_total, name_exact}
 use Rattle.fs_blobs.specs.blob_api.BlobMap.{BlobMap}
-use Rattle.fs_blobs.specs.outcome.Meanings.{Meanings}
+use Rattle.fs_blobs.specs.store_outcome.Meanings.{Meanings}
 use Rattle.block_id.specs.declared.id.BlockId.{BlockId}
 use Rattle.block_id.specs.Contents.{resized, written, pieces}
 use Rattle.block_id.proofs.Contents.{length-written}

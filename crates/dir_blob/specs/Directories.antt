@@ -1,7 +1,7 @@
 -- What a call on a directory needs, and what it leaves.
 use Rattle.std.specs.Prelude.{◌≡◌, ◌≤◌, ◌+◌, ℕ, List, ◌++◌, length, take, drop}
 use Rattle.std.specs.FinMap.{get, insert, find}
-use Rattle.fs_blobs.specs.outcome.Meanings.{Meanings}
+use Rattle.fs_blobs.specs.store_outcome.Meanings.{Meanings}
 use Rattle.std.specs.declared.option.Option.TheVariants.{None, Some}
 use Rattle.fs_blobs.specs.blob_api.declared.blobs.TheConstants.{MAX_BLOB}
 use Rattle.fs_blobs.specs.blob_api.BlobMap.{Id, BlobMap, BlobHoldings}

@@ -3,4 +3,4 @@ pub mod Directories
 pub use Rattle.fs_blobs.specs.blob_api as blob_api
 pub use Rattle.dir_entries.specs as dir_entries
 pub use Rattle.fs_blobs.specs as fs_blobs
-pub use Rattle.fs_blobs.specs.outcome as outcome
+pub use Rattle.fs_blobs.specs.store_outcome as store_outcome

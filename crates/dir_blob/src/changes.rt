@@ -1,7 +1,7 @@
 // Changing one entry of a directory that is a blob.
 ghost use Rattle.std.specs.Prelude.{◌≡◌, ◌≤◌, ◌+◌, IfOk, length, is_some, None, true};
 ghost use Rattle.std.specs.FinMap.{find as found_in, put};
-ghost use Rattle.fs_blobs.specs.outcome.Outcome.{Outcome};
+ghost use Rattle.fs_blobs.specs.store_outcome.Outcome.{Outcome};
 ghost use Rattle.fs_blobs.specs.blob_api.BlobMap.{IsSparing};
 ghost use Rattle.fs_model.specs.Tree.{name_cmp, entry_size};
 ghost use Rattle.dir_entries.specs.Layout.{Listing, entry_of, IsBody, body_of};

@@ -1,7 +1,7 @@
 // Reading a directory that is a blob.
 ghost use Rattle.std.specs.Prelude.{◌≡◌, ◌≤◌, IfOk, IfSome, length};
 ghost use Rattle.std.specs.FinMap.{find as found_in};
-ghost use Rattle.fs_blobs.specs.outcome.Outcome.{Outcome};
+ghost use Rattle.fs_blobs.specs.store_outcome.Outcome.{Outcome};
 ghost use Rattle.fs_model.specs.Tree.{name_cmp};
 ghost use Rattle.dir_entries.specs.Layout.{IsListing, listing_of, body_of};
 ghost use Rattle.dir_entries.specs.Places.{target_of};

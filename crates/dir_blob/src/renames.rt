@@ -2,7 +2,7 @@
 ghost use Rattle.std.specs.Prelude.{◌≡◌, ◌≤◌, ◌+◌, ◌++◌, IfOk, drop, is_some, length, take, true, None};
 ghost use Rattle.std.specs.FinMap.{find as found_in, insert as with_key};
 ghost use Rattle.fs_model.specs.declared.attr.Kind.TheVariants.{Directory};
-ghost use Rattle.fs_blobs.specs.outcome.Outcome.{Outcome};
+ghost use Rattle.fs_blobs.specs.store_outcome.Outcome.{Outcome};
 ghost use Rattle.fs_blobs.specs.Headers.{blob};
 ghost use Rattle.fs_model.specs.Tree.{name_cmp};
 ghost use Rattle.dir_entries.specs.Layout.{Listing, IsBody, entry_of};

@@ -2,10 +2,10 @@
 use crate::files::on_files;
 use crate::places::{Places, make_places, remove_places};
 use crate::stories::{Order, Stage, play};
-use folder_samples::host_folder::Folder;
-use folder_samples::{Row, appends, has_rows, leads, makes, path};
+use memory_host_folder::host_folder::Folder;
+use memory_host_folder::{Row, appends, has_rows, leads, makes, path};
 use outside::Failed;
-use real_host::RealHost;
+use real_host_folder::RealHost;
 use std::alloc::Global;
 use std::test::Fail;
 

@@ -1,5 +1,5 @@
 // A system some of whose flushes fail.
-use real_folders::Lock;
+use real_outside::Lock;
 use std::alloc::Allocator;
 use std::cell::Cell;
 use std::fs::{File, Files, Metadata, OpenFile, OpenOptions};

@@ -3,8 +3,7 @@ use crate::calls::{file_of, on_vault};
 use crate::copies::parts_of;
 use crate::stories::{Order, tell};
 use memory_outside::MemoryVault;
-use outside::{Change, FileName, GetFail, Pending};
-use outside_promises::listing::{ByteLine, Listing};
+use outside::{ByteLine, Change, FileName, GetFail, Listing, Pending};
 use std::alloc::{AllocError, Global};
 use std::test::Fail;
 

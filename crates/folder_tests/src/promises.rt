@@ -2,10 +2,10 @@
 use crate::places::{make_places, remove_places};
 use call_log::CallLog;
 use memory_outside::{MemoryKeeper, MemoryVault};
-use outside_promises::keeper_promises::keeps_all_of_a_record;
-use outside_promises::listing_promises::lists_what_is_there;
-use outside_promises::vault_promises::keeps_all_of_a_directory;
-use real_folders::{FolderKeeper, FolderRun, FolderVault};
+use outside_suite::keeper_promises::keeps_all_of_a_record;
+use outside_suite::listing_promises::lists_what_is_there;
+use outside_suite::vault_promises::keeps_all_of_a_directory;
+use real_outside::{FolderKeeper, FolderRun, FolderVault};
 use std::test::Fail;
 
 #[test]

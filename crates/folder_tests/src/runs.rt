@@ -6,7 +6,7 @@ use crate::places::{Places, make_places, remove_places};
 use crate::stories::{Order, Stage, play};
 use call_log::CallLog;
 use outside::Memory;
-use real_folders::{FolderKeeper, FolderRun, FolderVault};
+use real_outside::{FolderKeeper, FolderRun, FolderVault};
 use std::alloc::Global;
 use std::cell::Cell;
 use std::test::Fail;

@@ -3,8 +3,7 @@ ghost use Rattle.std.specs.Prelude.{◌<◌};
 
 use crate::rows::tell;
 use crate::words::{array, hex_of, number, say, words_of};
-use aes_bits::KeyPlanes;
-use aes_block::KeySchedule;
+use aes_block::{KeyPlanes, KeySchedule};
 use std::alloc::Global;
 use std::test::Fail;
 

@@ -4,8 +4,8 @@
 use crate::rows::tell;
 use crate::words::{array, bytes_of, hex_of, say, words_of};
 use block_id::{BlockId, Why};
-use block_records::sealed_store::Seen;
-use block_records::{HEAD_LEN, OVERHEAD, judge, read_head, write_record};
+use block_versions::sealed_store::Seen;
+use block_versions::{HEAD_LEN, OVERHEAD, judge, read_head, write_record};
 use std::alloc::Global;
 use std::test::Fail;
 

@@ -1,7 +1,7 @@
 // Blobs of the file system over any store of blobs.
 ghost use Rattle.std.specs.Prelude.{◌≡◌, ◌≤◌, ◌+◌, length, take, drop};
 ghost use Rattle.std.specs.FinMap.{insert};
-ghost use Rattle.blob_api.specs.outcome.Outcome.{Outcome};
+ghost use Rattle.blob_api.specs.store_outcome.Outcome.{Outcome};
 ghost use Rattle.block_id.specs.Contents.{resized, written};
 ghost use Rattle.blob_api.specs.BlobMap.{StandsForMap, IsNew, IsSparing};
 ghost use Rattle.fs_blobs.specs.Headers.{blob};

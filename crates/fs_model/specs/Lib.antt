@@ -8,3 +8,4 @@ pub mod Step
 pub mod Laws
 pub mod Codes
 pub mod Kinds
+pub mod Changes

@@ -1,7 +1,10 @@
 //! Names, paths, commands and replies of the tree language, and the definition of its step.
+//!
+//! Rules that the tree in memory and the tree of blobs share: attributes, lengths, and the order and prefixes of names.
 #![tactic(auto)]
 
 mod attr;
+mod attributes;
 mod bytes;
 mod command;
 mod error;
@@ -11,9 +14,12 @@ mod limits;
 mod moment;
 mod name;
 mod path;
+mod paths;
 mod reply;
+mod tree_rules_lengths;
 
 pub use attr::{Attr, DIRECTORY_MODE, FILE_MODE, Kind, LINK_MODE};
+pub use attributes::{AttrChange, changed, new_attr, root_attr};
 pub use block_id::Memory;
 pub use bytes::ByteText;
 pub use command::{Command, has_zero};
@@ -26,4 +32,6 @@ pub use limits::{
 pub use moment::Moment;
 pub use name::{Name, has_dots_alone, has_name_form};
 pub use path::Path;
+pub use paths::{cmp_names, has_prefix, is_above, same_names};
 pub use reply::{ListRow, Reply, RowList};
+pub use tree_rules_lengths::is_too_long;

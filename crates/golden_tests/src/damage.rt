@@ -2,8 +2,8 @@
 
 use crate::stories::{Tale, tell};
 use crate::system::{block_of, older_file_of, stored_system};
-use old_forms::aes_gcm::Aes256Gcm;
-use old_forms::config_file::open_config;
+use config_file::aes_gcm::Aes256Gcm;
+use config_file::open_config;
 use outside::FileName;
 use seal_api::Sealer;
 use std::alloc::Global;

@@ -1,12 +1,15 @@
 //! File systems as they lie in folders. One that an earlier program made (`bench/golden.py`) opens, shows what was written into it,
 //! puts what waits in its record, and each damage of a block has its verdict; new ones in the older forms are changed and
 //! migrated; and one is made and used by the program's own run over real folders. There is nothing here but tests.
+//!
+//! Stored file systems as programs of before block format 2 wrote them, for tests.
 #![tactic(auto)]
 
 #[cfg(test)]
 mod damage;
 #[cfg(test)]
 mod migrating;
+mod old_forms_older;
 #[cfg(test)]
 mod older;
 #[cfg(test)]
@@ -21,3 +24,10 @@ mod stored;
 mod stories;
 #[cfg(test)]
 mod system;
+
+pub use old_forms_older::{Stored, in_older_forms};
+
+// Handed on to crates above, which needn't list them.
+pub use config_file;
+pub use config_file::aes_gcm;
+pub use memory_outside;

@@ -2,7 +2,7 @@
 
 use crate::stories::{Tale, tell};
 use crate::system::{block_of, system_of};
-use old_forms::{Stored, in_older_forms};
+use crate::{Stored, in_older_forms};
 use std::alloc::Global;
 use std::test::Fail;
 use test_systems::{Status, System, ask, copy_files, file, store};

@@ -3,8 +3,8 @@
 use call_log::{ByteLog, CallLog};
 use fs_model::Moment;
 use program_run::program_inputs::Inputs;
-use program_run::program_inputs::real_folders::{FolderKeeper, FolderVault};
-use program_run::real_streams::{ReaderSource, WriterSink};
+use program_run::program_inputs::real_outside::{FolderKeeper, FolderVault};
+use program_run::real_outside::{ReaderSource, WriterSink};
 use program_run::run_program;
 use rand_pcg::Pcg32;
 use run_status::{Status, Storage};
@@ -14,7 +14,7 @@ use std::io::ErrorKind;
 use std::path::PathBuf;
 use std::test::Fail;
 use std::{env, process};
-use test_systems::memory_folder::MemoryFolder;
+use test_systems::memory_host_folder::MemoryFolder;
 
 /// What a row says: the words, the input, how the run ends, and what it writes.
 #[derive(Drop)]

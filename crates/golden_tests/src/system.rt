@@ -2,7 +2,7 @@
 
 use crate::stored::{BLOCKS, CONFIG, OLDER, RECORD, WAITING};
 use block_id::BlockId;
-use old_forms::memory_outside::{MemoryKeeper, MemoryVault};
+use memory_outside::{MemoryKeeper, MemoryVault};
 use outside::{Change, FileName, Pending};
 use std::alloc::Global;
 use std::test::Fail;

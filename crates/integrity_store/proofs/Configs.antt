@@ -12,17 +12,17 @@ use Rattle.outside.specs.Changes.{FileChanges, change_at, set_change}
 use Rattle.outside.specs.ChangeLaws.{change_at-set_change}
 use Rattle.local_state.specs.Known.{Lives, is_last}
 use Rattle.local_state.specs.Record.{PlainState, FitsEntry, Rise, record_bytes, HasRecord}
-use Rattle.batch_sealing.specs.store_api.Content.{SameContent}
-use Rattle.batch_sealing.specs.store_api.Holdings.{Stays}
-use Rattle.batch_sealing.specs.store_api.Lists.{MayConfigure}
-use Rattle.batch_sealing.specs.block_records.BlockRecords.{Record, payload_in}
-use Rattle.batch_sealing.specs.held_blocks.Held.{Held, live_version, waiting_or, bytes_in, told_or_none, where_live, wanted}
-use Rattle.batch_sealing.specs.held_blocks.Soundness.{IsPast, SoundBy}
+use Rattle.store_api.specs.Content.{SameContent}
+use Rattle.store_api.specs.Holdings.{Stays}
+use Rattle.store_api.specs.Lists.{MayConfigure}
+use Rattle.block_versions.specs.BlockRecords.{Record, payload_in}
+use Rattle.block_versions.specs.Held.{Held, live_version, waiting_or, bytes_in, told_or_none, where_live, wanted}
+use Rattle.block_versions.specs.Soundness.{IsPast, SoundBy}
 use Rattle.outside.specs.Honest.{last_change}
 use Rattle.local_state.proofs.Records.{written_record}
 use Rattle.integrity_store.specs.EnduringLaws.{configures_of}
-use Rattle.batch_sealing.specs.held_blocks.Standing.{Configures}
-use Rattle.batch_sealing.specs.held_blocks.Stores.{IsWhole, version_in, holdings_by, IsNoBlock}
+use Rattle.block_versions.specs.Standing.{Configures}
+use Rattle.block_versions.specs.Stores.{IsWhole, version_in, holdings_by, IsNoBlock}
 use Rattle.integrity_store.proofs.OneWrite.{with_list}
 
 -- ---- what is held of blocks

@@ -6,15 +6,15 @@ use Rattle.std.specs.declared.option.Option.TheVariants.{None, Some}
 use Rattle.outside.specs.Trace.{block, Call}
 use Rattle.outside.specs.Honest.{LastChange, last_change}
 use Rattle.local_state.specs.Record.{PlainState, IsLeast, IsRecord, FitsState, record_bytes}
-use Rattle.batch_sealing.specs.store_api.Durables.{IsLastNew, WasLastNew, IsNewFile, MayBeLeast}
-use Rattle.batch_sealing.specs.block_records.BlockRecords.{Record, payload_in}
+use Rattle.store_api.specs.Durables.{IsLastNew, WasLastNew, IsNewFile, MayBeLeast}
+use Rattle.block_versions.specs.BlockRecords.{Record, payload_in}
 use Rattle.block_id.specs.declared.format.Format.{Format}
 use Rattle.block_id.specs.declared.format.Format.TheVariants.{Alone, WithId}
 use Rattle.block_id.specs.Formats.{IsTaken, format_in}
-use Rattle.batch_sealing.specs.held_blocks.Held.{Held, file_of, live_version, told_or_none, waiting, wanted, where_live}
-use Rattle.batch_sealing.specs.held_blocks.Soundness.{IsPast, SoundAt, SoundBy}
-use Rattle.batch_sealing.specs.held_blocks.Stores.{IsWhole, holdings_by}
-use Rattle.batch_sealing.specs.held_blocks.Standing.{Configures, durables_by}
+use Rattle.block_versions.specs.Held.{Held, file_of, live_version, told_or_none, waiting, wanted, where_live}
+use Rattle.block_versions.specs.Soundness.{IsPast, SoundAt, SoundBy}
+use Rattle.block_versions.specs.Stores.{IsWhole, holdings_by}
+use Rattle.block_versions.specs.Standing.{Configures, durables_by}
 use Rattle.local_state.proofs.Records.{written_record}
 use Rattle.integrity_store.specs.EnduringLaws.{configures_of, configured_of}
 

@@ -24,16 +24,16 @@ use Rattle.outside.specs.Writes.{call_for}
 use Rattle.block_id.specs.declared.format.Format.{Format}
 use Rattle.block_id.specs.declared.format.Format.TheVariants.{Alone, WithId}
 use Rattle.block_id.specs.Formats.{magic, prefix_of}
-use Rattle.batch_sealing.specs.sealed_store.BlockFiles.{opened_as, opens_file}
-use Rattle.batch_sealing.specs.store_api.Durables.{IsConfigured}
-use Rattle.batch_sealing.specs.block_records.BlockRecords.{Record, opened, payload_in}
-use Rattle.batch_sealing.specs.block_records.RecordLaws.{if_true, opened-alike, opened-plain}
-use Rattle.batch_sealing.specs.held_blocks.Held.{Held, live_version, waiting, waiting_or, bytes_in, file_of, where_live, wanted, own}
-use Rattle.batch_sealing.specs.held_blocks.Forgeries.{was_put}
-use Rattle.batch_sealing.specs.held_blocks.Soundness.{IsForeign, IsFresh, IsPast, IsSealed, SoundAt}
-use Rattle.batch_sealing.proofs.held_blocks_lemmas.Fetches.{wanted_of}
-use Rattle.batch_sealing.specs.held_blocks.Stores.{IsWhole, IsNoBlock}
-use Rattle.batch_sealing.proofs.Sorted.{of_found}
+use Rattle.block_versions.specs.sealed_store.BlockFiles.{opened_as, opens_file}
+use Rattle.store_api.specs.Durables.{IsConfigured}
+use Rattle.block_versions.specs.BlockRecords.{Record, opened, payload_in}
+use Rattle.block_versions.specs.RecordLaws.{if_true, opened-alike, opened-plain}
+use Rattle.block_versions.specs.Held.{Held, live_version, waiting, waiting_or, bytes_in, file_of, where_live, wanted, own}
+use Rattle.block_versions.specs.Forgeries.{was_put}
+use Rattle.block_versions.specs.Soundness.{IsForeign, IsFresh, IsPast, IsSealed, SoundAt}
+use Rattle.block_versions.proofs.Fetches.{wanted_of}
+use Rattle.block_versions.specs.Stores.{IsWhole, IsNoBlock}
+use Rattle.integrity_store.proofs.Sorted.{of_found}
 
 true_is_false : true ≡ false → ⊥
 true_is_false e = cc

@@ -18,20 +18,20 @@ use Rattle.outside.specs.Honest.{is_lie, count_told}
 use Rattle.local_state.specs.Record.{ListEntry, Rise, record_bytes, HasRecord, IsRecord}
 use Rattle.local_state.proofs.Records.{written_record}
 use Rattle.outside.specs.Writes.{call_for, after_writes, StopsAt}
-use Rattle.batch_sealing.specs.store_api.Content.{SameContent}
-use Rattle.batch_sealing.specs.store_api.Durables.{IsConfigured}
-use Rattle.batch_sealing.proofs.store_api_lemmas.Rising.{not_below}
+use Rattle.store_api.specs.Content.{SameContent}
+use Rattle.store_api.specs.Durables.{IsConfigured}
+use Rattle.store_api.proofs.Rising.{not_below}
 use Rattle.integrity_store.specs.EnduringLaws.{configures_of, configured_of}
-use Rattle.batch_sealing.specs.held_blocks.Held.{Held, wanted}
-use Rattle.batch_sealing.specs.held_blocks.Forgeries.{forged}
-use Rattle.batch_sealing.specs.held_blocks.Soundness.{SoundBy}
-use Rattle.batch_sealing.specs.held_blocks.Standing.{identity_of, Stands, Configures}
-use Rattle.batch_sealing.specs.held_blocks.Stores.{IsWhole, IsNoBlock}
-use Rattle.batch_sealing.proofs.held_blocks_lemmas.Untouched.{same_self}
-use Rattle.batch_sealing.specs.held_blocks.StoreLaws.{sound_is_told}
+use Rattle.block_versions.specs.Held.{Held, wanted}
+use Rattle.block_versions.specs.Forgeries.{forged}
+use Rattle.block_versions.specs.Soundness.{SoundBy}
+use Rattle.block_versions.specs.Standing.{identity_of, Stands, Configures}
+use Rattle.block_versions.specs.Stores.{IsWhole, IsNoBlock}
+use Rattle.block_versions.proofs.Untouched.{same_self}
+use Rattle.block_versions.specs.StoreLaws.{sound_is_told}
 use Rattle.integrity_store.specs.WaitingLaws.{in_order}
-use Rattle.batch_sealing.proofs.Sorted.{found_first, first_below, found_later, each_found}
-use Rattle.batch_sealing.proofs.Waiting.{test_of}
+use Rattle.integrity_store.proofs.Sorted.{found_first, first_below, found_later, each_found}
+use Rattle.integrity_store.proofs.Waiting.{test_of}
 use Rattle.integrity_store.proofs.OneWrite.{same_is, with_list, Leaves, sound_call, wanted_call, configured_call, sound_left, wanted_left, configured_left}
 
 true_is_false : true ≡ false → ⊥

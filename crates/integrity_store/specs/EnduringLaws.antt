@@ -8,18 +8,18 @@ use Rattle.outside.specs.Changes.{FileChanges, change_at}
 use Rattle.local_state.specs.Record.{PlainState, HasRecord, IsRecord, record_bytes}
 use Rattle.local_state.proofs.Records.{one_reading, mark_in, marked_record, is_plain, written_record}
 use Rattle.local_state.specs.Record as records_of
-use Rattle.batch_sealing.specs.store_api.Content.{Content, SameContent, Changes as BlockChanges}
-use Rattle.batch_sealing.specs.store_api.Durables.{Identity, Enduring, IsConfigured, last_told, with_mark}
+use Rattle.store_api.specs.Content.{Content, SameContent, Changes as BlockChanges}
+use Rattle.store_api.specs.Durables.{Identity, Enduring, IsConfigured, last_told, with_mark}
 use Rattle.std.specs.FinMap as fin
 use Rattle.block_id.specs.declared.format.Format.TheVariants.{WithId}
 use Rattle.block_id.specs.Formats.{format_in}
-use Rattle.batch_sealing.specs.Applied.{Applied, WaitsAfter, applied_by}
-use Rattle.batch_sealing.specs.held_blocks.Held.{Held}
-use Rattle.batch_sealing.specs.held_blocks.ReadLaws.{goes_on, last_went, sound-got, went_sound, went_wanted}
-use Rattle.batch_sealing.specs.held_blocks.Reads.{GaveWrong, WentOnByReads}
-use Rattle.batch_sealing.specs.held_blocks.Standing.{Configures, IsMarked, Stands, durables_by, identity_of, listed, records}
-use Rattle.batch_sealing.specs.held_blocks.StoreLaws.{sound_is_told}
-use Rattle.batch_sealing.specs.held_blocks.Stores.{holdings_by, meanings_by}
+use Rattle.integrity_store.specs.Applied.{Applied, WaitsAfter, applied_by}
+use Rattle.block_versions.specs.Held.{Held}
+use Rattle.block_versions.specs.ReadLaws.{goes_on, last_went, sound-got, went_sound, went_wanted}
+use Rattle.block_versions.specs.Reads.{GaveWrong, WentOnByReads}
+use Rattle.block_versions.specs.Standing.{Configures, IsMarked, Stands, durables_by, identity_of, listed, records}
+use Rattle.block_versions.specs.StoreLaws.{sound_is_told}
+use Rattle.block_versions.specs.Stores.{holdings_by, meanings_by}
 use Rattle.integrity_store.specs.WaitingLaws.{in_order}
 
 -- ---- records

@@ -3,15 +3,15 @@ use Rattle.std.specs.Prelude.{◌≡◌, ℕ, ◌-◌, Bool, List}
 use Rattle.std.specs.declared.option.Option.{Option}
 use Rattle.std.specs.FinMap as fin
 use Rattle.outside.specs.Trace.{Call}
-use Rattle.batch_sealing.specs.outcome.Meanings.{Meanings}
+use Rattle.block_versions.specs.store_outcome.Meanings.{Meanings}
 use Rattle.local_state.specs.Record.{record_bytes, IsRecord}
-use Rattle.batch_sealing.specs.store_api.Content.{Id, Content, SameContent}
-use Rattle.batch_sealing.specs.store_api.Durables.{Durables, Records}
-use Rattle.batch_sealing.specs.store_api.Holdings.{Holdings}
-use Rattle.batch_sealing.specs.held_blocks.Held.{Held}
-use Rattle.batch_sealing.specs.held_blocks.Soundness.{IsUntouched}
-use Rattle.batch_sealing.specs.held_blocks.Standing.{identity_of, listed}
-use Rattle.batch_sealing.specs.held_blocks.Stores.{version_in}
+use Rattle.store_api.specs.Content.{Id, Content, SameContent}
+use Rattle.store_api.specs.Durables.{Durables, Records}
+use Rattle.store_api.specs.Holdings.{Holdings}
+use Rattle.block_versions.specs.Held.{Held}
+use Rattle.block_versions.specs.Soundness.{IsUntouched}
+use Rattle.block_versions.specs.Standing.{identity_of, listed}
+use Rattle.block_versions.specs.Stores.{version_in}
 
 -- its ids, versions and sizes, its identity, list, calls and faults are those of what it was made of
 pub record IsMadeOf {S : Type 0} (M : Meanings S) (H : Holdings S) (D : Durables S) (h : Held) (calls : Option (List Call)) (failed : ℕ) (s : S) : Type 0 where

@@ -2,8 +2,8 @@
 use Rattle.std.specs.Prelude.{ℕ, ◌≤◌, ◌<◌, ◌^◌, List, Result, OnOk}
 use Rattle.std.specs.declared.option.Option.{Option}
 use Rattle.block_id.specs.declared.fail.Memory.{Memory}
-use Rattle.batch_sealing.specs.held_blocks.Held.{Held}
-use Rattle.batch_sealing.specs.held_blocks.Views.{held_of}
+use Rattle.block_versions.specs.Held.{Held}
+use Rattle.block_versions.specs.Views.{held_of}
 use Rattle.integrity_store.specs.declared.store.IntegrityStore.{IntegrityStore}
 
 -- what a store holds

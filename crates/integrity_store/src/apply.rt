@@ -2,26 +2,25 @@
 ghost use Rattle.std.specs.Prelude.{◌≡◌, ◌↔◌, length, OnOk, OnErr};
 ghost use Rattle.std.specs.declared.result.Result.TheVariants.{Err};
 ghost use Rattle.std.specs.List.{AllByRecursion};
-ghost use Rattle.batch_sealing.specs.sealed_store.Stores.{IsIntact, block_size_of, key_of, cipher_of};
-ghost use Rattle.block_batch.specs.Entries.{entries_of};
-ghost use Rattle.batch_sealing.specs.store_api.Applying.{Applies, AppliesNone, KeepsCounts};
-ghost use Rattle.batch_sealing.specs.store_api.Draws.{IsLater};
-ghost use Rattle.batch_sealing.specs.store_api.Holdings.{FitsStore, IsSpent};
-ghost use Rattle.batch_sealing.specs.Applied.{applied_by};
-ghost use Rattle.batch_sealing.specs.Draws.{AreDrawn};
-ghost use Rattle.batch_sealing.specs.Raising.{count_new_in};
-ghost use Rattle.batch_sealing.specs.Sealing.{MaySeal, IsListed};
-ghost use Rattle.batch_sealing.specs.held_blocks.StoreLaws.{settled_by};
+ghost use Rattle.block_versions.specs.sealed_store.Stores.{IsIntact, block_size_of, key_of, cipher_of};
+ghost use Rattle.store_api.specs.Entries.{entries_of};
+ghost use Rattle.store_api.specs.Applying.{Applies, AppliesNone, KeepsCounts};
+ghost use Rattle.store_api.specs.Draws.{IsLater};
+ghost use Rattle.store_api.specs.Holdings.{FitsStore, IsSpent};
+ghost use Rattle.integrity_store.specs.Applied.{applied_by};
+ghost use Rattle.integrity_store.specs.Draws.{AreDrawn};
+ghost use Rattle.integrity_store.specs.Raising.{count_new_in};
+ghost use Rattle.integrity_store.specs.Sealing.{MaySeal, IsListed};
+ghost use Rattle.block_versions.specs.StoreLaws.{settled_by};
 ghost use Rattle.integrity_store.specs.Views.{HasRoom, held_by};
 
-use crate::IntegrityStore;
-use batch_sealing::store_api::{ApplyError, Batch, BatchChange, Blocks, BlocksMut};
-use batch_sealing::{count_new, draft_all, raise_or_bury_all, some_spent};
+use crate::{IntegrityStore, count_new, draft_all, raise_or_bury_all, some_spent};
 use block_id::{BlockId, Memory};
 use outside::Vault;
 use rand_core::Rng;
 use seal_api::Sealer;
 use std::alloc::Global;
+use store_api::{ApplyError, Batch, BatchChange, Blocks, BlocksMut};
 
 impl<V: Vault, C: Sealer> IntegrityStore<V, C> {
     /// Has the files and removals of the entries wait, and takes the memory for their new ids. A file is sealed later.

@@ -1,16 +1,16 @@
 // The unwritten list: recorded, and written out.
-ghost use Rattle.batch_sealing.specs.sealed_store.Stores.{IsIntact, block_size_of, cipher_of};
+ghost use Rattle.block_versions.specs.sealed_store.Stores.{IsIntact, block_size_of, cipher_of};
 ghost use Rattle.integrity_store.specs.EnduringLaws.{enduring_by};
-ghost use Rattle.batch_sealing.specs.held_blocks.Standing.{durables_by, records};
+ghost use Rattle.block_versions.specs.Standing.{durables_by, records};
 ghost use Rattle.integrity_store.specs.Views.{held_by};
 
 use crate::IntegrityStore;
-use batch_sealing::store_api::Durable;
 use block_id::Memory;
 use local_state::encode;
 use outside::{GetFail, Vault};
 use seal_api::Sealer;
 use std::alloc::Global;
+use store_api::Durable;
 
 impl<V: Vault, C: Sealer> Durable for IntegrityStore<V, C> {
     ghost durables = { durables_by (held_by C.opens) (λ s. V.trace s.sealed.vault.vault) };

@@ -1,30 +1,30 @@
 // The store of blocks.
 ghost use Rattle.std.specs.Prelude.{◌≡◌, ◌≤◌, IfOk, IfErr, IfSome, length, is_some, min};
 ghost use Rattle.outside.specs.View.{bytes_of};
-ghost use Rattle.batch_sealing.specs.outcome.Outcome.{Outcome};
-ghost use Rattle.batch_sealing.specs.outcome.Meanings.{HasCause, IsOfBlocks, IsQuiet};
+ghost use Rattle.block_versions.specs.store_outcome.Outcome.{Outcome};
+ghost use Rattle.block_versions.specs.store_outcome.Meanings.{HasCause, IsOfBlocks, IsQuiet};
 ghost use Rattle.outside.specs.Trace.{config};
 ghost use Rattle.outside.specs.Changes.{change_at};
 ghost use Rattle.local_state.specs.Record.{plain_state, HasRecord};
-ghost use Rattle.batch_sealing.specs.store_api.Fronts.{front_of};
-ghost use Rattle.batch_sealing.specs.store_api.Holdings.{IsFew, Stays};
-ghost use Rattle.batch_sealing.specs.store_api.Loads.{answer_of};
-ghost use Rattle.batch_sealing.specs.sealed_store.Stores.{IsIntact, block_size_of, cipher_of};
-ghost use Rattle.batch_sealing.specs.held_blocks.Loads.{FetchedFront, fetched_of, loads_by};
-ghost use Rattle.batch_sealing.specs.held_blocks.Stores.{meanings_by, holdings_by, IsNoBlock};
-ghost use Rattle.batch_sealing.specs.held_blocks.StoreLaws.{lawful_by, steady_by};
-ghost use Rattle.batch_sealing.specs.held_blocks.Views.{held_of};
+ghost use Rattle.store_api.specs.Fronts.{front_of};
+ghost use Rattle.store_api.specs.Holdings.{IsFew, Stays};
+ghost use Rattle.store_api.specs.Loads.{answer_of};
+ghost use Rattle.block_versions.specs.sealed_store.Stores.{IsIntact, block_size_of, cipher_of};
+ghost use Rattle.block_versions.specs.Loads.{FetchedFront, fetched_of, loads_by};
+ghost use Rattle.block_versions.specs.Stores.{meanings_by, holdings_by, IsNoBlock};
+ghost use Rattle.block_versions.specs.StoreLaws.{lawful_by, steady_by};
+ghost use Rattle.block_versions.specs.Views.{held_of};
 ghost use Rattle.integrity_store.specs.Made.{IsMadeOf, IsRecordedAs, IsSoundAs};
 ghost use Rattle.integrity_store.specs.Views.{held_by};
 
-use batch_sealing::block_records::{HEAD_LEN, OVERHEAD, judge};
-use batch_sealing::sealed_store::SealedStore;
-use batch_sealing::store_api::{Blocks, Durable};
 use block_id::{BlockId, Fail};
+use block_versions::sealed_store::SealedStore;
+use block_versions::{HEAD_LEN, OVERHEAD, judge};
 use local_state::State;
 use outside::{GetFail, Vault};
 use seal_api::Sealer;
 use std::alloc::Global;
+use store_api::{Blocks, Durable};
 
 /// Payloads under ids in a directory of sealed files, with what the client knows of them. Each live block has a
 /// version, by which an older or newer file is noticed.

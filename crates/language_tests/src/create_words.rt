@@ -1,7 +1,7 @@
 // Words of `create`, and what they say.
 
 use crate::rows::{Taken, tell};
-use shell_words::{CreateOptions, parse_create_options};
+use program_words::{CreateOptions, parse_create_options};
 use std::alloc::{AllocError, Global};
 use std::test::Fail;
 

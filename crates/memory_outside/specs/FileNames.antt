@@ -8,7 +8,7 @@ use Rattle.std.specs.Set.{remove_key}
 use Rattle.std.specs.declared.option.Option.{Option}
 use Rattle.std.specs.declared.option.Option.TheVariants.{None, Some}
 use Rattle.outside.specs.Changes.{FileChanges}
-use Rattle.listing.specs.FileTexts.{text_of_file}
+use Rattle.outside.specs.FileTexts.{text_of_file}
 
 -- names in order, with one more, and without one
 abbrev pub with_name : List (List ℕ) → List ℕ → List (List ℕ)

@@ -5,4 +5,4 @@ pub mod MemoryStreams
 pub mod Vaults
 pub mod View
 -- Handed on to crates above, which name their words so and needn't list them.
-pub use Rattle.listing.specs as listing
+pub use Rattle.outside.specs as outside

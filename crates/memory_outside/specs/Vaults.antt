@@ -4,7 +4,7 @@ use Rattle.std.specs.List.{list_any}
 use Rattle.std.specs.declared.alloc.Global.{Global}
 use Rattle.std.specs.declared.option.Option.{Option}
 use Rattle.std.specs.declared.option.Option.TheVariants.{None, Some}
-use Rattle.listing.specs.declared.directory_names.TheConstants.{MAX_NAMES}
+use Rattle.outside.specs.declared.directory_names.TheConstants.{MAX_NAMES}
 use Rattle.outside.specs.declared.vault.GetFail.{GetFail}
 use Rattle.outside.specs.declared.vault.GetFail.TheVariants.{Memory, Failed}
 use Rattle.outside.specs.Trace.{At, Call, got}

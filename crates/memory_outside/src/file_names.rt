@@ -3,8 +3,7 @@ ghost use Rattle.std.specs.Prelude.{◌≡◌, fold, IfOk};
 ghost use Rattle.outside.specs.View.{list_of};
 ghost use Rattle.memory_outside.specs.FileNames.{with_name, file_names, all_names};
 
-use listing::{ByteLine, file_text};
-use outside::{Change, Pending};
+use outside::{ByteLine, Change, Pending, file_text};
 use std::alloc::{AllocError, Global};
 use std::collections::BTreeSet;
 

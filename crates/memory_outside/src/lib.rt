@@ -15,5 +15,5 @@ pub use memory_source::MemorySource;
 pub use memory_vault::MemoryVault;
 
 // Handed on to crates above, which needn't list them.
-pub use listing;
+pub use outside;
 pub use pending_list;

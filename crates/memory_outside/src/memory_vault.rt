@@ -12,8 +12,7 @@ ghost use Rattle.memory_outside.specs.View.{call_of, answers_of};
 
 use crate::Event;
 use crate::file_names::names;
-use listing::{ByteLine, Listing, MAX_NAMES};
-use outside::{Change, FileName, GetFail, Memory, Pending, Vault};
+use outside::{ByteLine, Change, FileName, GetFail, Listing, MAX_NAMES, Memory, Pending, Vault};
 use std::alloc::{AllocError, Global};
 use std::marker::Model;
 

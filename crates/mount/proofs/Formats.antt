@@ -1,17 +1,17 @@
 -- The least format from one record that is kept to another.
 use Rattle.std.proofs.Common.{◌≡◌, ◌∙◌, ℕ, List, [], false, sym, ap, subst, inl, inr}
 use Rattle.std.specs.declared.option.Option.{Option}
-use Rattle.mount_tower.specs.config_file.declared.config.Opened.{Opened}
+use Rattle.mount_stores.specs.config_file.declared.config.Opened.{Opened}
 use Rattle.outside.specs.Changes.{FileChanges}
 use Rattle.outside.specs.Trace.{Call}
 use Rattle.outside.specs.declared.keeper.Keeper.{Ghosts as KeeperGhosts}
 use Rattle.local_state.specs.Record.{PlainState}
-use Rattle.mount_tower.specs.held_blocks.Standing.{listed, records}
+use Rattle.mount_stores.specs.block_versions.Standing.{listed, records}
 use Rattle.mount_core.specs.Formats.{KeepsLeast, StaysLeast}
-use Rattle.mount_tower.proofs.Reading.{same_kept}
-use Rattle.mount_tower.specs.Identities.{KeepsRecord}
-use Rattle.mount_tower.specs.Opening.{IsLoaded}
-use Rattle.mount_tower.specs.Tower.{Cached, held_in, tower_durables}
+use Rattle.mount_stores.proofs.Reading.{same_kept}
+use Rattle.mount_stores.specs.Identities.{KeepsRecord}
+use Rattle.mount_stores.specs.Opening.{IsLoaded}
+use Rattle.mount_stores.specs.Tower.{Cached, held_in, tower_durables}
 use Rattle.mount.specs.declared.mount.Mount.{Mount}
 use Rattle.mount.specs.Answering.{store_of, kept_of}
 use Rattle.mount.specs.Formats.{TakesFrom, TakesSame}

@@ -21,24 +21,24 @@ use Rattle.store_api.specs.Holdings.{has_id}
 use Rattle.store_api.specs.Ids.{ComeOfSeed}
 use Rattle.store_api.proofs.Draws.{later_same}
 use Rattle.store_api.proofs.Rising.{ids_total}
-use Rattle.mount_tower.specs.session_saver.Saving.{Wrote}
+use Rattle.mount_stores.specs.record_saver.Saving.{Wrote}
 use Rattle.local_state.specs.Record.{PlainState}
 use Rattle.local_state.specs.declared.life.Life.{Life}
-use Rattle.mount_tower.specs.held_blocks.Held.{Held, waiting}
-use Rattle.mount_tower.specs.held_blocks.Reads.{AllReads, WentOnByReads}
-use Rattle.mount_tower.specs.held_blocks.Stores.{OnlyRead}
-use Rattle.mount_tower.specs.held_blocks.StoreLaws.{has-keys}
-use Rattle.mount_tower.specs.held_blocks.Standing.{identity_of}
-use Rattle.mount_tower.specs.held_blocks.block_records.BlockRecords.{opened}
+use Rattle.mount_stores.specs.block_versions.Held.{Held, waiting}
+use Rattle.mount_stores.specs.block_versions.Reads.{AllReads, WentOnByReads}
+use Rattle.mount_stores.specs.block_versions.Stores.{OnlyRead}
+use Rattle.mount_stores.specs.block_versions.StoreLaws.{has-keys}
+use Rattle.mount_stores.specs.block_versions.Standing.{identity_of}
+use Rattle.mount_stores.specs.block_versions.BlockRecords.{opened}
 use Rattle.mount.specs.Owning.{IsOwnFile, OwnWaits, AddsOwn, KeepsOwn}
 use Rattle.mount.specs.OwningLaws.{adds_own_nothing, owns_sealed, owns_then}
-use Rattle.mount_tower.specs.batch_sealing.Applied.{Applied, WaitsAfter, life_after}
-use Rattle.mount_tower.specs.batch_sealing.Draws.{AreDrawn, draws, given_in, given_ids, iv_in, iv_of}
-use Rattle.mount_tower.proofs.batch_sealing_lemmas.Sorted.{all_by, each_found, of_found}
+use Rattle.mount_stores.specs.integrity_store.Applied.{Applied, WaitsAfter, life_after}
+use Rattle.mount_stores.specs.integrity_store.Draws.{AreDrawn, draws, given_in, given_ids, iv_in, iv_of}
+use Rattle.mount_stores.proofs.integrity_store_lemmas.Sorted.{all_by, each_found, of_found}
 use Rattle.mount_core.specs.Drawing.{DrawsOnce, DrawsSeeded, LineDraws, NamesKnown}
-use Rattle.mount_tower.specs.Opening.{IsLoaded, ReadsConfigOnce}
-use Rattle.mount_tower.specs.declared.opening.TheConstants.{MAX_CONFIG}
-use Rattle.mount_tower.specs.Tower.{Cached, held_in, trace_in, tower_meanings, tower_holdings, tower_durables}
+use Rattle.mount_stores.specs.Opening.{IsLoaded, ReadsConfigOnce}
+use Rattle.mount_stores.specs.declared.opening.TheConstants.{MAX_CONFIG}
+use Rattle.mount_stores.specs.Tower.{Cached, held_in, trace_in, tower_meanings, tower_holdings, tower_durables}
 use Rattle.mount.specs.Sealing.{Draw, seed, vector, known_after, AreDraws, AreVectors, IsDrawnFor, View, view_closed, IsSealedFor, PutsSealed, AddsSealed, AreSealed, SealsFresh, SealsKnown, OpensSealed}
 use Rattle.mount.specs.NamingLaws.{among_later, known_or_drawn}
 use Rattle.mount.specs.SealingLaws.{adds_nothing, adds_then, known_none, known_then, sealed_nothing, sealed_then, seals_then}

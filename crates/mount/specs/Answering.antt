@@ -10,7 +10,7 @@ use Rattle.mount_core.specs.answers.Sessions.{Asked}
 use Rattle.mount_core.specs.Showing.{Showing}
 use Rattle.mount_core.specs.Answering.{LineAnswers, LineAnswered as CoreAnswered}
 use Rattle.mount.specs.declared.mount.Mount.{Mount}
-use Rattle.mount_tower.specs.Tower.{tower_durables}
+use Rattle.mount_stores.specs.Tower.{tower_durables}
 use Rattle.mount.specs.Owning.{KeepsOwn}
 use Rattle.mount.specs.Sealing.{view_of}
 pub use Rattle.mount.specs.Telling.{store_of, calls_of, forgeries_of, lies_of, vault_faults, keeper_faults, version_of, kept_of}

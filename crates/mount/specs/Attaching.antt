@@ -1,17 +1,17 @@
 -- What the mount that was opened is, stands for and called.
 use Rattle.std.specs.Prelude.{◌≡◌, ◌≤◌, ℕ, true, false, List, [], ◌∷◌, is_some}
 use Rattle.std.specs.declared.option.Option.{Option}
-use Rattle.mount_tower.specs.aes_gcm.Gcm.{opened_of}
-use Rattle.mount_tower.specs.config_file.Settings.{Settings, settings_of}
+use Rattle.mount_stores.specs.aes_gcm.Gcm.{opened_of}
+use Rattle.mount_stores.specs.config_file.Settings.{Settings, settings_of}
 use Rattle.fs_model.specs.Tree.{Tree}
-use Rattle.mount_tower.specs.held_blocks.Forgeries.{forged}
-use Rattle.mount_tower.specs.held_blocks.Standing.{records}
+use Rattle.mount_stores.specs.block_versions.Forgeries.{forged}
+use Rattle.mount_stores.specs.block_versions.Standing.{records}
 use Rattle.outside.specs.Honest.{is_lie, count_told}
 use Rattle.outside.specs.Trace.{Call}
 use Rattle.outside.specs.declared.keeper.Keeper.{Ghosts as KeeperGhosts}
-use Rattle.mount_tower.specs.session_saver.Saving.{KeptConfigures}
+use Rattle.mount_stores.specs.record_saver.Saving.{KeptConfigures}
 use Rattle.mount_core.specs.Showing.{Showing}
-use Rattle.mount_tower.specs.Unforged.{IsUnforgedConfig}
+use Rattle.mount_stores.specs.Unforged.{IsUnforgedConfig}
 use Rattle.mount.specs.declared.mount.Mount.{Mount}
 use Rattle.mount.specs.Answering.{calls_of, forgeries_of, lies_of, vault_faults, keeper_faults}
 use Rattle.mount.specs.Mounts.{IsReady}

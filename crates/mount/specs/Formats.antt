@@ -3,9 +3,9 @@ use Rattle.std.specs.Prelude.{◌≡◌, ◌⊎◌, ℕ, List}
 use Rattle.std.specs.declared.option.Option.{Option}
 use Rattle.outside.specs.Changes.{FileChanges}
 use Rattle.local_state.specs.Record.{PlainState}
-use Rattle.mount_tower.specs.held_blocks.Standing.{records}
+use Rattle.mount_stores.specs.block_versions.Standing.{records}
 use Rattle.mount_core.specs.Standing.{IsKeptMarked}
-use Rattle.mount_tower.specs.Identities.{KeepsRecord}
+use Rattle.mount_stores.specs.Identities.{KeepsRecord}
 
 -- a record of this state is kept, with some list
 pub record KeepsState (kept : Option (List ℕ)) (state : PlainState) : Type 0 where

@@ -7,7 +7,7 @@ use Rattle.outside.specs.Changes.{FileChanges, change_at}
 use Rattle.outside.specs.Trace.{Call, block, config, put, got, removed}
 use Rattle.store_api.specs.Content.{Id}
 use Rattle.store_api.specs.Durables.{Identity}
-use Rattle.mount_tower.specs.held_blocks.block_records.BlockRecords.{opened}
+use Rattle.mount_stores.specs.block_versions.BlockRecords.{opened}
 use Rattle.mount.specs.Sealing.{View}
 
 -- a file of this block that opens to a record of it, by the client of this identity

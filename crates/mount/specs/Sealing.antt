@@ -7,14 +7,14 @@ use Rattle.std.specs.declared.option.Option.TheVariants.{None, Some}
 use Rattle.outside.specs.Changes.{FileChanges, change_at}
 use Rattle.outside.specs.Trace.{Call, block, config, put, got, removed}
 use Rattle.rand_core.specs.Stream.{Stream, fill_bytes}
-use Rattle.mount_tower.specs.batch_sealing.Draws.{iv_in}
+use Rattle.mount_stores.specs.integrity_store.Draws.{iv_in}
 use Rattle.store_api.specs.Content.{Id}
 use Rattle.store_api.specs.Draws.{IsLater}
 use Rattle.store_api.specs.Holdings.{has_id}
 use Rattle.store_api.specs.Ids.{AreIdsOf, chacha20}
-use Rattle.mount_tower.specs.Identities.{KeepsRecord}
-use Rattle.mount_tower.specs.Opening.{IsLoaded}
-use Rattle.mount_tower.specs.Tower.{tower_durables, tower_holdings}
+use Rattle.mount_stores.specs.Identities.{KeepsRecord}
+use Rattle.mount_stores.specs.Opening.{IsLoaded}
+use Rattle.mount_stores.specs.Tower.{tower_durables, tower_holdings}
 use Rattle.local_state.specs.Record.{PlainState}
 use Rattle.mount.specs.declared.mount.Mount.{Mount}
 use Rattle.mount.specs.Telling.{store_of, calls_of}

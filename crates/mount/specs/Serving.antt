@@ -1,28 +1,28 @@
 -- What the calls beside an answer leave of a mount.
 use Rattle.std.specs.Prelude.{◌≡◌, ◌⊎◌, ◌≤◌, ℕ, true, false, List, [], Result, is_some, IsOk, IsErrOf, OnOk}
 use Rattle.std.specs.declared.option.Option.{Option}
-use Rattle.mount_tower.specs.aes_gcm.Gcm.{opened_of}
-use Rattle.mount_tower.specs.config_file.ConfigOf.{IsOnly, opened as opened_as}
-use Rattle.mount_tower.specs.config_file.Settings.{settings_of}
+use Rattle.mount_stores.specs.aes_gcm.Gcm.{opened_of}
+use Rattle.mount_stores.specs.config_file.ConfigOf.{IsOnly, opened as opened_as}
+use Rattle.mount_stores.specs.config_file.Settings.{settings_of}
 use Rattle.fs_model.specs.Tree.{Tree}
-use Rattle.mount_tower.specs.held_blocks.Forgeries.{forged}
-use Rattle.mount_tower.specs.held_blocks.Standing.{records}
+use Rattle.mount_stores.specs.block_versions.Forgeries.{forged}
+use Rattle.mount_stores.specs.block_versions.Standing.{records}
 use Rattle.outside.specs.Causes.{RoseBy}
 use Rattle.outside.specs.Going.{GoesOn}
 use Rattle.outside.specs.Honest.{is_lie, count_told}
 use Rattle.outside.specs.Trace.{Call}
 use Rattle.outside.specs.declared.keeper.Keeper.{Ghosts as KeeperGhosts}
-use Rattle.mount_tower.specs.session_saver.Saving.{KeptConfigures, Leaves, UnlessDirectory, UnlessState}
-use Rattle.mount_tower.specs.session_saver.declared.saver.SyncError.{SyncError}
-use Rattle.mount_tower.specs.session_saver.declared.saver.SyncError.TheVariants.{Memory, FaultDirectory, FaultState}
+use Rattle.mount_stores.specs.record_saver.Saving.{KeptConfigures, Leaves, UnlessDirectory, UnlessState}
+use Rattle.mount_stores.specs.record_saver.declared.saver.SyncError.{SyncError}
+use Rattle.mount_stores.specs.record_saver.declared.saver.SyncError.TheVariants.{Memory, FaultDirectory, FaultState}
 use Rattle.mount_core.specs.Configuring.{ConfigClosed, ConfigSynced, Replaced}
 use Rattle.mount_core.specs.Keeping.{IsSameOrRecord, ReplaceKeeps, SyncKeeps}
 use Rattle.mount_core.specs.Formats.{StaysLeast}
 use Rattle.mount_core.specs.Standing.{Synced}
 use Rattle.mount_core.specs.Showing.{Showing}
-use Rattle.mount_tower.specs.Identities.{HasEmptyList}
-use Rattle.mount_tower.specs.Opening.{KeepsVersions}
-use Rattle.mount_tower.specs.Tower.{vault_in, tower_holdings, tower_durables}
+use Rattle.mount_stores.specs.Identities.{HasEmptyList}
+use Rattle.mount_stores.specs.Opening.{KeepsVersions}
+use Rattle.mount_stores.specs.Tower.{vault_in, tower_holdings, tower_durables}
 use Rattle.mount.specs.declared.mount.Mount.{Mount}
 use Rattle.mount.specs.Answering.{store_of, calls_of, forgeries_of, lies_of, vault_faults, keeper_faults, version_of, kept_of}
 use Rattle.mount.specs.Mounts.{IsReady, MountClosed}

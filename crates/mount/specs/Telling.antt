@@ -4,7 +4,7 @@ use Rattle.std.specs.declared.option.Option.{Option}
 use Rattle.outside.specs.Trace.{Call}
 use Rattle.outside.specs.declared.keeper.Keeper.{Ghosts as KeeperGhosts}
 use Rattle.mount.specs.declared.mount.Mount.{Mount}
-use Rattle.mount_tower.specs.Tower.{Cached, trace_in, tower_meanings, tower_holdings}
+use Rattle.mount_stores.specs.Tower.{Cached, trace_in, tower_meanings, tower_holdings}
 
 abbrev pub store_of : {V : Type 0} → {K : Type 0} → Mount V K → Cached V
 store_of mount = mount.core.blobs.tx.store

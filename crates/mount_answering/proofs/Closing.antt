@@ -2,13 +2,13 @@
 use Rattle.std.proofs.Common.{◌≡◌, ◌⊎◌, ◌∙◌, true, false, refl, sym, ap, subst, inl, inr}
 use Rattle.std.specs.Prelude.{Result, IsOk}
 use Rattle.std.specs.declared.result.Result.TheVariants.{Ok}
-use Rattle.mount_core.specs.outcome.Meanings.{Meanings}
+use Rattle.mount_core.specs.store_outcome.Meanings.{Meanings}
 use Rattle.outside.specs.declared.keeper.Keeper.{Ghosts as KeeperGhosts}
 use Rattle.mount_core.specs.store_api.Durables.{Durables, Records}
 use Rattle.mount_core.specs.store_api.Holdings.{Holdings}
-use Rattle.mount_core.specs.session_saver.Saving.{world, Leaves}
-use Rattle.mount_core.specs.session_saver.declared.saver.SyncError.{SyncError}
-use Rattle.mount_core.specs.tree_commands.Performing.{Showing}
+use Rattle.mount_core.specs.record_saver.Saving.{world, Leaves}
+use Rattle.mount_core.specs.record_saver.declared.saver.SyncError.{SyncError}
+use Rattle.mount_core.specs.path_layer.Performing.{Showing}
 use Rattle.mount_core.specs.declared.body.Core.{Core}
 use Rattle.mount_core.specs.Answering.{store_of, CoreMoves, CoreSyncs, CoreCloses}
 use Rattle.mount_answering.proofs.Lines.{closed, config_closed, true_is_false}

@@ -1,8 +1,8 @@
 -- What a line draws, from what its steps do.
 use Rattle.std.proofs.Common.{◌≡◌, ◌⊎◌, ℕ, List, ap, subst, inl, inr}
-use Rattle.mount_core.specs.outcome.Meanings.{Meanings, Lawful}
+use Rattle.mount_core.specs.store_outcome.Meanings.{Meanings, Lawful}
 use Rattle.rand_core.specs.Stream.{Stream, fill_bytes}
-use Rattle.mount_core.specs.session_saver.Saving.{Wrote}
+use Rattle.mount_core.specs.record_saver.Saving.{Wrote}
 use Rattle.mount_core.specs.store_api.Content.{Changes}
 use Rattle.mount_core.specs.store_api.Durables.{Durables}
 use Rattle.mount_core.specs.store_api.Holdings.{Holdings}

@@ -1,11 +1,11 @@
 -- The least format of what is kept.
 use Rattle.std.proofs.Common.{◌≡◌, ◌⊎◌, ℕ, List, refl, sym, subst, inl, inr}
 use Rattle.std.specs.declared.option.Option.{Option}
-use Rattle.mount_core.specs.outcome.Meanings.{Meanings}
+use Rattle.mount_core.specs.store_outcome.Meanings.{Meanings}
 use Rattle.outside.specs.declared.keeper.Keeper.{Ghosts as KeeperGhosts}
 use Rattle.mount_core.specs.store_api.Durables.{Durables, Records}
 use Rattle.mount_core.specs.store_api.Holdings.{Holdings}
-use Rattle.mount_core.specs.session_saver.Saving.{world, IsRecordOf}
+use Rattle.mount_core.specs.record_saver.Saving.{world, IsRecordOf}
 use Rattle.mount_core.specs.Formats.{KeepsLeast, StaysLeast}
 use Rattle.mount_core.specs.Standing.{IsKeptMarked}
 

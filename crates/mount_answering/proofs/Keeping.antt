@@ -5,10 +5,10 @@ use Rattle.std.specs.declared.option.Option.TheVariants.{Some}
 use Rattle.std.specs.declared.result.Result.TheVariants.{Ok, Err}
 use Rattle.mount_core.specs.Keeping.{IsSameOrRecord, SyncKeeps}
 use Rattle.outside.specs.declared.keeper.Keeper.{Ghosts as KeeperGhosts}
-use Rattle.mount_core.specs.session_saver.Saving.{LastBeforeLong, LastAfterLong}
-use Rattle.mount_core.specs.session_saver.declared.saver.Saver.{Saver}
-use Rattle.mount_core.specs.session_saver.declared.saver.SyncError.{SyncError}
-use Rattle.mount_core.specs.session_saver.declared.saver.SyncError.TheVariants.{Memory, FaultDirectory, FaultState}
+use Rattle.mount_core.specs.record_saver.Saving.{LastBeforeLong, LastAfterLong}
+use Rattle.mount_core.specs.record_saver.declared.saver.Saver.{Saver}
+use Rattle.mount_core.specs.record_saver.declared.saver.SyncError.{SyncError}
+use Rattle.mount_core.specs.record_saver.declared.saver.SyncError.TheVariants.{Memory, FaultDirectory, FaultState}
 use Rattle.mount_core.specs.store_api.Durables.{Durables, Records, with_mark}
 
 module _ {S : Type 0} {K : Type 0} (D : Durables S) (G : KeeperGhosts K) where

@@ -13,4 +13,4 @@ mod Draws
 pub use Rattle.mount_core.proofs.data_tree_lemmas as data_tree_lemmas
 pub use Rattle.mount_core.proofs as mount_core_lemmas
 pub use Rattle.mount_core.proofs.store_api_lemmas as store_api_lemmas
-pub use Rattle.mount_core.proofs.tree_commands_lemmas as tree_commands_lemmas
+pub use Rattle.mount_core.proofs.path_layer_lemmas as path_layer_lemmas

@@ -2,7 +2,7 @@
 use Rattle.std.proofs.Common.{◌≡◌, ◌⊎◌, ◌<◌, ◌∙◌, Bool, false, sym, arith}
 use Rattle.std.specs.Prelude.{Result, Ok}
 use Rattle.fs_model.specs.declared.command.Command.{Command}
-use Rattle.mount_core.specs.outcome.Meanings.{Meanings}
+use Rattle.mount_core.specs.store_outcome.Meanings.{Meanings}
 use Rattle.outside.specs.Causes.{RoseBy}
 use Rattle.outside.specs.Going.{goes_on_onward}
 use Rattle.outside.specs.declared.keeper.Keeper.{Ghosts as KeeperGhosts}
@@ -13,9 +13,9 @@ use Rattle.mount_core.specs.answers.Sessions.{directory_faults}
 use Rattle.mount_core.specs.store_api.Durables.{Durables, Records}
 use Rattle.mount_core.specs.store_api.Holdings.{Holdings}
 use Rattle.mount_core.specs.store_api.Lists.{waiting_weight}
-use Rattle.mount_core.specs.session_saver.Saving.{world, Wrote, Leaves}
-use Rattle.mount_core.specs.session_saver.declared.saver.SyncError.{SyncError}
-use Rattle.mount_core.specs.tree_commands.Performing.{is_sync}
+use Rattle.mount_core.specs.record_saver.Saving.{world, Wrote, Leaves}
+use Rattle.mount_core.specs.record_saver.declared.saver.SyncError.{SyncError}
+use Rattle.mount_core.specs.path_layer.Performing.{is_sync}
 use Rattle.mount_core.specs.Answering.{StoreAnswers}
 use Rattle.mount_core.specs.Answers.{is_done_answer, OnFound, OnSpent}
 use Rattle.block_id.specs.declared.fail.Why.{Why}

@@ -6,19 +6,19 @@ use Rattle.fs_model.specs.declared.command.Command.{Command}
 use Rattle.fs_model.specs.declared.reply.Reply.{Reply}
 use Rattle.fs_model.specs.Instant.{Instant}
 use Rattle.fs_model.specs.Tree.{Tree}
-use Rattle.mount_core.specs.outcome.Meanings.{Meanings}
+use Rattle.mount_core.specs.store_outcome.Meanings.{Meanings}
 use Rattle.outside.specs.Causes.{RoseBy}
 use Rattle.outside.specs.Going.{GoesOn}
 use Rattle.mount_core.specs.answers.declared.answer.Answer.{Answer}
 use Rattle.mount_core.specs.answers.declared.answer.Answer.TheVariants.{Refused}
 use Rattle.mount_core.specs.answers.Sessions.{is_violation, directory_faults, state_faults}
-use Rattle.mount_core.specs.session_saver.Saving.{World, CanMark, Whole}
+use Rattle.mount_core.specs.record_saver.Saving.{World, CanMark, Whole}
 use Rattle.mount_core.specs.store_api.Content.{Changes}
 use Rattle.mount_core.specs.store_api.Durables.{Durables}
 use Rattle.mount_core.specs.store_api.Holdings.{Holdings, Stays, gives_payload}
 use Rattle.mount_core.specs.store_api.Txs.{intact_in}
-use Rattle.mount_core.specs.tree_commands.Performing.{Showing, IsReplyTo}
-use Rattle.mount_core.specs.tree_commands.Sparing.{OnWriteInside}
+use Rattle.mount_core.specs.path_layer.Performing.{Showing, IsReplyTo}
+use Rattle.mount_core.specs.path_layer.Sparing.{OnWriteInside}
 use Rattle.mount_core.specs.declared.body.Core.{Core}
 use Rattle.mount_core.specs.Answering.{SaverAnswers, store_of}
 use Rattle.mount_core.specs.Answers.{is_done_answer, is_structure, Notices, OnFound, OnReply, OnSpent}

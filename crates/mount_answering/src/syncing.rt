@@ -1,8 +1,8 @@
 // What keeps what is present, over any durable store and keeper.
 ghost use Rattle.std.specs.Prelude.{◌≡◌, false};
-ghost use Rattle.mount_core.specs.session_saver.Saving.{world, Leaves};
+ghost use Rattle.mount_core.specs.record_saver.Saving.{world, Leaves};
 ghost use Rattle.mount_core.specs.store_api.Lists.{MayConfigure};
-ghost use Rattle.mount_core.specs.tree_commands.Showing.{ShowsFiles};
+ghost use Rattle.mount_core.specs.path_layer.Showing.{ShowsFiles};
 ghost use Rattle.mount_core.specs.Answering.{CoreMoves, CoreSyncs, MakesRoom, CoreReplaces, CoreCloses};
 ghost use Rattle.mount_core.specs.Standing.{Ready};
 
@@ -10,9 +10,9 @@ use crate::kinds::is_sync;
 use block_id::Memory;
 use fs_model::Command;
 use mount_core::Core;
-use mount_core::session_saver::{Saver, SyncError};
+use mount_core::path_layer::BlobStore;
+use mount_core::record_saver::{Saver, SyncError};
 use mount_core::store_api::Durable;
-use mount_core::tree_commands::BlobStore;
 use outside::Keeper;
 use std::alloc::Global;
 

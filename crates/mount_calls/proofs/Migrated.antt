@@ -17,11 +17,11 @@ use Rattle.fs_model.specs.Tree.{Tree}
 use Rattle.fs_model.specs.declared.reply.Reply.TheVariants.{Done}
 use Rattle.mount_opening.specs.local_state.Known.{Lives, live_ids}
 use Rattle.mount_opening.specs.local_state.Record.{IsLeast}
-use Rattle.mount_blocks.specs.mount.declared.mount.Mount.{Mount}
-use Rattle.mount_blocks.specs.mount.Answering.{store_of, calls_of}
-use Rattle.mount_blocks.specs.mount.Mounts.{IsReady}
-use Rattle.mount_blocks.specs.mount.Tower.{tower}
-use Rattle.mount_blocks.proofs.Living.{ids_rise}
+use Rattle.mount.specs.declared.mount.Mount.{Mount}
+use Rattle.mount.specs.Answering.{store_of, calls_of}
+use Rattle.mount.specs.Mounts.{IsReady}
+use Rattle.mount.specs.Tower.{tower}
+use Rattle.mount.proofs.Living.{ids_rise}
 use Rattle.mount_opening.specs.mount_core.Answers.{OnSpent}
 use Rattle.mount_opening.specs.mount_core.Standing.{Left}
 use Rattle.std.proofs.lemmas.List.{length-map}
@@ -30,8 +30,8 @@ use Rattle.mount_migrating.specs.declared.error.MigrateError.{MigrateError}
 use Rattle.mount_migrating.specs.declared.error.MigrateError.TheVariants as error
 use Rattle.mount_migrating.specs.Noticing.{PassesNone}
 use Rattle.mount_migrating.proofs.Noticing.{along_same, passes_along}
-use Rattle.mount_blocks.specs.mount_tower.Tower.{held_in, tower_meanings, tower_holdings, tower_durables}
-use Rattle.mount_blocks.specs.mount_tower.TowerLaws.{tower_lawful}
+use Rattle.mount.specs.mount_stores.Tower.{held_in, tower_meanings, tower_holdings, tower_durables}
+use Rattle.mount.specs.mount_stores.TowerLaws.{tower_lawful}
 use Rattle.outside.specs.Going.{goes_on_same}
 use Rattle.outside.specs.Trace.{Call}
 use Rattle.outside.specs.declared.keeper.Keeper.{Ghosts as KeeperGhosts}

@@ -1,7 +1,7 @@
 -- A record that takes block files of the newest format alone.
 use Rattle.std.proofs.Common.{ℕ, List, [], inr}
 use Rattle.std.specs.declared.option.Option.{Option}
-use Rattle.mount_blocks.specs.mount.Formats.{TakesFrom}
+use Rattle.mount.specs.Formats.{TakesFrom}
 use Rattle.mount_calls.specs.Migrating.{KeepsNewest}
 
 pub newest_takes : (kept : Option (List ℕ)) → KeepsNewest kept → TakesFrom 2 kept

@@ -4,24 +4,24 @@ use Rattle.std.specs.declared.option.Option.{Option}
 use Rattle.std.specs.declared.option.Option.TheVariants.{Some}
 use Rattle.mount_opening.specs.answers.declared.answer.Answer.{Answer}
 use Rattle.mount_opening.specs.answers.Sessions.{is_violation}
-use Rattle.mount_blocks.specs.held_blocks.Standing.{listed}
-use Rattle.mount_blocks.specs.integrity_store.WaitingLaws.{in_order}
+use Rattle.mount.specs.block_versions.Standing.{listed}
+use Rattle.mount.specs.integrity_store.WaitingLaws.{in_order}
 use Rattle.mount_opening.specs.local_state.Record.{with_mark as mark_set}
-use Rattle.mount_blocks.specs.mount.declared.mount.Mount.{Mount}
-use Rattle.mount_blocks.specs.mount.Sealing.{Draw, HoldsSealed, View, AreSealed, IsSealedFor, SealsKnown}
-use Rattle.mount_blocks.specs.mount.SealingLaws.{holds_marked, holds_more, holds_then, known_none, known_nothing, known_then, sealed_nothing}
-use Rattle.mount_blocks.specs.mount.Tower.{tower}
-use Rattle.mount_blocks.proofs.mount_lemmas.Sealing.{step_seals, tower_applied, tower_drawn}
+use Rattle.mount.specs.declared.mount.Mount.{Mount}
+use Rattle.mount.specs.Sealing.{Draw, HoldsSealed, View, AreSealed, IsSealedFor, SealsKnown}
+use Rattle.mount.specs.SealingLaws.{holds_marked, holds_more, holds_then, known_none, known_nothing, known_then, sealed_nothing}
+use Rattle.mount.specs.Tower.{tower}
+use Rattle.mount.proofs.Sealing.{step_seals, tower_applied, tower_drawn}
 use Rattle.mount_opening.specs.mount_core.declared.body.Core.{Core}
 use Rattle.mount_opening.specs.mount_core.Answering.{store_of}
 use Rattle.mount_opening.specs.mount_core.Keeping.{IsSameOrRecord}
 use Rattle.mount_migrating.specs.Drawing.{DrawsAnew, DrawsMarked, DrawsSteps, Reached, StepDraws}
-use Rattle.mount_blocks.specs.mount_tower.Tower.{Cached, held_in, trace_in, tower_meanings, tower_holdings, tower_durables}
+use Rattle.mount.specs.mount_stores.Tower.{Cached, held_in, trace_in, tower_meanings, tower_holdings, tower_durables}
 use Rattle.outside.specs.Changes.{FileChanges, IsIncreasing, change_at}
 use Rattle.outside.specs.Trace.{Call, block}
 use Rattle.outside.specs.declared.keeper.Keeper.{Ghosts as KeeperGhosts}
 use Rattle.rand_core.specs.Stream.{Stream}
-use Rattle.mount_opening.specs.session_saver.declared.saver.Saver.{Saver}
+use Rattle.mount_opening.specs.record_saver.declared.saver.Saver.{Saver}
 use Rattle.mount_opening.proofs.store_api_lemmas.Draws.{later_same}
 use Rattle.mount_opening.specs.store_api.Durables.{with_mark}
 use Rattle.mount_opening.specs.store_api.Holdings.{has_id}

@@ -2,11 +2,11 @@
 use Rattle.std.specs.Prelude.{◌≡◌, ◌⊎◌, ◌≤◌, ℕ, true, List}
 use Rattle.std.specs.declared.option.Option.{Option}
 use Rattle.std.specs.declared.option.Option.TheVariants.{Some}
-use Rattle.mount_blocks.specs.held_blocks.Standing.{records}
-use Rattle.mount_blocks.specs.mount.declared.mount.Mount.{Mount}
-use Rattle.mount_blocks.specs.mount.Answering.{calls_of, keeper_faults, kept_of}
-use Rattle.mount_blocks.specs.mount.Mounts.{IsReady}
-use Rattle.mount_blocks.specs.mount.Tower.{TowerConfigures}
+use Rattle.mount.specs.block_versions.Standing.{records}
+use Rattle.mount.specs.declared.mount.Mount.{Mount}
+use Rattle.mount.specs.Answering.{calls_of, keeper_faults, kept_of}
+use Rattle.mount.specs.Mounts.{IsReady}
+use Rattle.mount.specs.Tower.{TowerConfigures}
 use Rattle.mount_opening.specs.mount_core.Configuring.{KeptOneOf}
 use Rattle.mount_opening.specs.mount_core.Standing.{IsKeptMarked}
 use Rattle.outside.specs.Causes.{RoseBy}

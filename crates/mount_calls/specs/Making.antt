@@ -2,9 +2,9 @@
 use Rattle.std.specs.Prelude.{ℕ, List, Result, OnOk}
 use Rattle.std.specs.declared.option.Option.{Option}
 use Rattle.block_id.specs.declared.id.BlockId.{BlockId}
-use Rattle.mount_blocks.specs.mount.Making.{HasClient, HasSalt, KnowsOnly}
+use Rattle.mount.specs.Making.{HasClient, HasSalt, KnowsOnly}
 use Rattle.mount_calls.specs.Migrating.{KeepsNewest}
-use Rattle.mount_blocks.specs.mount_tower.declared.error.OpenError.{OpenError}
+use Rattle.mount.specs.mount_stores.declared.error.OpenError.{OpenError}
 
 -- where one was made: no block but the root's is known, the digest of the key has this salt, it is the record of client 1, has no mark, and takes the newest format alone
 pub record FirstRecord (kept : Option (List ℕ)) (root key_salt : List ℕ) (made : Result BlockId OpenError) : Type 0 where

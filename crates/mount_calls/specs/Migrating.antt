@@ -2,22 +2,22 @@
 use Rattle.std.specs.Prelude.{◌≡◌, ◌⊎◌, ◌≤◌, ℕ, true, false, List, [], Result, OnOk, OnErr, IfOk, length}
 use Rattle.std.specs.declared.option.Option.{Option}
 use Rattle.mount_opening.specs.answers.Sessions.{is_violation, directory_faults, state_faults}
-use Rattle.mount_blocks.specs.batch_sealing.Applied.{applied_by}
+use Rattle.mount.specs.integrity_store.Applied.{applied_by}
 use Rattle.fs_model.specs.Tree.{Tree}
-use Rattle.mount_blocks.specs.held_blocks.Standing.{records}
+use Rattle.mount.specs.block_versions.Standing.{records}
 use Rattle.mount_opening.specs.local_state.Known.{live_ids}
 use Rattle.mount_opening.specs.local_state.Record.{PlainState}
-use Rattle.mount_blocks.specs.mount.declared.mount.Mount.{Mount}
-use Rattle.mount_blocks.specs.mount.Answering.{store_of, calls_of, forgeries_of, lies_of, vault_faults, keeper_faults, kept_of}
-use Rattle.mount_blocks.specs.mount.Tower.{tower, TowerStands, TowerConfigures}
+use Rattle.mount.specs.declared.mount.Mount.{Mount}
+use Rattle.mount.specs.Answering.{store_of, calls_of, forgeries_of, lies_of, vault_faults, keeper_faults, kept_of}
+use Rattle.mount.specs.Tower.{tower, TowerStands, TowerConfigures}
 use Rattle.mount_opening.specs.mount_core.Answers.{is_structure, OnFound, OnSpent}
 use Rattle.mount_opening.specs.mount_core.Configuring.{ConfigAnswered}
 use Rattle.mount_opening.specs.mount_core.Standing.{Left, IsKeptMarked}
 use Rattle.mount_migrating.specs.Migrating.{told, IsFoundSince, IsSpentAmong, AreUnspent, Raises}
 use Rattle.mount_migrating.specs.Noticing.{PassesNone}
 use Rattle.mount_migrating.specs.declared.error.MigrateError.{MigrateError}
-use Rattle.mount_blocks.specs.mount_tower.Identities.{KeepsRecord}
-use Rattle.mount_blocks.specs.mount_tower.Tower.{Cached, held_in, sealed_held, sealed_trace, tower_meanings, tower_holdings, tower_durables}
+use Rattle.mount.specs.mount_stores.Identities.{KeepsRecord}
+use Rattle.mount.specs.mount_stores.Tower.{Cached, held_in, sealed_held, sealed_trace, tower_meanings, tower_holdings, tower_durables}
 use Rattle.outside.specs.Causes.{RoseBy}
 use Rattle.outside.specs.Going.{GoesOn}
 use Rattle.outside.specs.Trace.{Call}

@@ -4,9 +4,9 @@ use Rattle.std.specs.declared.option.Option.{Option}
 use Rattle.std.specs.declared.option.Option.TheVariants.{Some}
 use Rattle.mount_opening.specs.answers.Sessions.{is_violation}
 use Rattle.mount_opening.specs.answers.declared.answer.Answer.{Answer}
-use Rattle.mount_blocks.specs.mount.declared.mount.Mount.{Mount}
-use Rattle.mount_blocks.specs.mount.Answering.{kept_of}
-use Rattle.mount_blocks.specs.mount.Sealing.{Draw, HoldsSealed, SealsKnown, view_of}
+use Rattle.mount.specs.declared.mount.Mount.{Mount}
+use Rattle.mount.specs.Answering.{kept_of}
+use Rattle.mount.specs.Sealing.{Draw, HoldsSealed, SealsKnown, view_of}
 use Rattle.outside.specs.Changes.{FileChanges}
 use Rattle.outside.specs.Trace.{Call, block}
 use Rattle.outside.specs.declared.keeper.Keeper.{Ghosts as KeeperGhosts}

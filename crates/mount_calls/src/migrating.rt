@@ -1,13 +1,13 @@
 // Blocks of an older format, written anew.
 ghost use Rattle.std.specs.Prelude.{◌≡◌, false};
 ghost use Rattle.mount_opening.specs.mount_core.Showing.{ShowsFiles};
-ghost use Rattle.mount_blocks.specs.mount.Mounts.{IsReady};
+ghost use Rattle.mount.specs.Mounts.{IsReady};
 ghost use Rattle.mount_calls.specs.Migrating.{MigratesMount};
 ghost use Rattle.mount_calls.specs.Sealing.{SealsAnew};
 ghost use Rattle.mount_migrating.specs.Migrating.{told};
 
 use block_id::Memory;
-use mount_blocks::mount::Mount;
+use mount::Mount;
 use mount_migrating::{MigrateError, migrate_ids};
 use outside::{Keeper, Vault};
 use rand_core::Rng;

@@ -1,24 +1,24 @@
 // What an opened file system does.
 ghost use Rattle.std.specs.Prelude.{◌≡◌, true, false};
-ghost use Rattle.mount_blocks.specs.config_file.Sealing.{sealed_file};
-ghost use Rattle.mount_blocks.specs.config_file.Settings.{settings_of};
+ghost use Rattle.mount.specs.config_file.Sealing.{sealed_file};
+ghost use Rattle.mount.specs.config_file.Settings.{settings_of};
 ghost use Rattle.fs_model.specs.Fitting.{IsFitting};
 ghost use Rattle.fs_model.specs.declared.reply.Reply.TheVariants.{Done};
 ghost use Rattle.mount_opening.specs.mount_core.Showing.{ShowsFiles, is_sync};
-ghost use Rattle.mount_blocks.specs.mount_tower.Drawing.{seal_drawn};
-ghost use Rattle.mount_blocks.specs.mount.Answering.{MountAnswers};
-ghost use Rattle.mount_blocks.specs.mount.Mounts.{IsReady};
-ghost use Rattle.mount_blocks.specs.mount.Sealing.{SealsFresh, view_of};
-ghost use Rattle.mount_blocks.specs.mount.Serving.{MountMoves, MountSyncs, ChangesPassword, MountLeaves, MountCloses};
+ghost use Rattle.mount.specs.mount_stores.Drawing.{seal_drawn};
+ghost use Rattle.mount.specs.Answering.{MountAnswers};
+ghost use Rattle.mount.specs.Mounts.{IsReady};
+ghost use Rattle.mount.specs.Sealing.{SealsFresh, view_of};
+ghost use Rattle.mount.specs.Serving.{MountMoves, MountSyncs, ChangesPassword, MountLeaves, MountCloses};
 ghost use Rattle.mount_calls.specs.Condemning.{Condemns};
 
 use fs_model::{Command, Moment};
-use mount_blocks::config_file::seal_config;
-use mount_blocks::mount::Mount;
-use mount_blocks::mount_tower::{draw_seal, into_vault};
+use mount::Mount;
+use mount::config_file::seal_config;
+use mount::mount_stores::{draw_seal, into_vault};
 use mount_migrating::mount_answering::{mark, replace_config};
 use mount_opening::answers::Answer;
-use mount_opening::session_saver::SyncError;
+use mount_opening::record_saver::SyncError;
 use outside::{Keeper, Vault};
 use rand_core::Rng;
 use std::alloc::Global;

@@ -5,19 +5,19 @@ use Rattle.fs_model.specs.declared.error.FsError.{FsError}
 use Rattle.fs_model.specs.declared.reply.Reply.TheVariants.{Done, Error}
 use Rattle.fs_model.specs.Instant.{Instant}
 use Rattle.fs_model.specs.Tree.{Tree}
-use Rattle.session_saver.specs.outcome.Meanings.{Meanings}
+use Rattle.record_saver.specs.store_outcome.Meanings.{Meanings}
 use Rattle.outside.specs.Causes.{RoseBy}
 use Rattle.outside.specs.Going.{GoesOn}
 use Rattle.answers.specs.declared.answer.Answer.{Answer}
 use Rattle.answers.specs.declared.answer.Answer.TheVariants.{Reply as Replied, Memory, Refused}
 use Rattle.answers.specs.Sessions.{Asked, FollowsAsked, is_violation, is_synced, directory_faults, state_faults}
-use Rattle.session_saver.specs.store_api.Durables.{Durables}
-use Rattle.session_saver.specs.store_api.Holdings.{Holdings, Stays}
-use Rattle.session_saver.specs.store_api.Lists.{waiting_weight}
-use Rattle.session_saver.specs.Saving.{World, KeepsEmpty, KeptConfigures, Wrote, Leaves}
-use Rattle.session_saver.specs.declared.saver.SyncError.{SyncError}
-use Rattle.tree_commands.specs.Performing.{Showing, is_sync, IsReplyTo}
-use Rattle.tree_commands.specs.Sparing.{OnWriteInside}
+use Rattle.record_saver.specs.store_api.Durables.{Durables}
+use Rattle.record_saver.specs.store_api.Holdings.{Holdings, Stays}
+use Rattle.record_saver.specs.store_api.Lists.{waiting_weight}
+use Rattle.record_saver.specs.Saving.{World, KeepsEmpty, KeptConfigures, Wrote, Leaves}
+use Rattle.record_saver.specs.declared.saver.SyncError.{SyncError}
+use Rattle.path_layer.specs.Performing.{Showing, is_sync, IsReplyTo}
+use Rattle.path_layer.specs.Sparing.{OnWriteInside}
 use Rattle.mount_core.specs.declared.body.Core.{Core}
 use Rattle.mount_core.specs.Answers.{is_done_answer, is_structure, OnFound, OnReply, OnSpent}
 use Rattle.mount_core.specs.Causes.{FoundCause, MadeRoom, OnlyLoaded, PassedNone, SpentCause}

@@ -1,14 +1,14 @@
 -- What a line takes of the stream of chance, for the batch that it applies and for the new ids in it: a before, b after.
 use Rattle.std.specs.Prelude.{◌≡◌, ◌⊎◌, ℕ, true, List, is_some}
 use Rattle.std.specs.FinMap.{get}
-use Rattle.session_saver.specs.outcome.Meanings.{Meanings}
+use Rattle.record_saver.specs.store_outcome.Meanings.{Meanings}
 use Rattle.rand_core.specs.Stream.{Stream, fill_bytes}
-use Rattle.session_saver.specs.Saving.{Wrote}
-use Rattle.session_saver.specs.store_api.Content.{Id, Changes}
-use Rattle.session_saver.specs.store_api.Draws.{IsLater}
-use Rattle.session_saver.specs.store_api.Durables.{Durables}
-use Rattle.session_saver.specs.store_api.Holdings.{Holdings, has_id}
-use Rattle.session_saver.specs.store_api.Ids.{ComeOfSeed}
+use Rattle.record_saver.specs.Saving.{Wrote}
+use Rattle.record_saver.specs.store_api.Content.{Id, Changes}
+use Rattle.record_saver.specs.store_api.Draws.{IsLater}
+use Rattle.record_saver.specs.store_api.Durables.{Durables}
+use Rattle.record_saver.specs.store_api.Holdings.{Holdings, has_id}
+use Rattle.record_saver.specs.store_api.Ids.{ComeOfSeed}
 
 -- the changes' new ids come of this seed
 abbrev pub NamesOfSeed : {S : Type 0} → Holdings S → List ℕ → S → Changes → Type 0

@@ -1,8 +1,8 @@
 -- From which format on the record that is kept has a store take block files.
 use Rattle.std.specs.Prelude.{◌≡◌, ◌⊎◌, ℕ, List}
 use Rattle.std.specs.declared.option.Option.{Option}
-use Rattle.session_saver.specs.store_api.Durables.{Durables, Records}
-use Rattle.session_saver.specs.Saving.{World, IsRecordOf}
+use Rattle.record_saver.specs.store_api.Durables.{Durables, Records}
+use Rattle.record_saver.specs.Saving.{World, IsRecordOf}
 use Rattle.mount_core.specs.Standing.{IsKeptMarked}
 
 -- what is kept is marked, or a record of a store with this least format

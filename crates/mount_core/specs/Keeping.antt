@@ -5,11 +5,11 @@ use Rattle.std.specs.declared.option.Option.TheVariants.{Some}
 use Rattle.answers.specs.Sessions.{is_violation}
 use Rattle.answers.specs.declared.answer.Answer.{Answer}
 use Rattle.outside.specs.declared.keeper.Keeper.{Ghosts as KeeperGhosts}
-use Rattle.session_saver.specs.Saving.{World, IsRecordOf}
-use Rattle.session_saver.specs.declared.saver.Saver.{Saver}
-use Rattle.session_saver.specs.store_api.Durables.{Durables, Records, with_mark}
-use Rattle.session_saver.specs.store_api.Holdings.{Stays}
-use Rattle.session_saver.specs.store_api.Lists.{with_config}
+use Rattle.record_saver.specs.Saving.{World, IsRecordOf}
+use Rattle.record_saver.specs.declared.saver.Saver.{Saver}
+use Rattle.record_saver.specs.store_api.Durables.{Durables, Records, with_mark}
+use Rattle.record_saver.specs.store_api.Holdings.{Stays}
+use Rattle.record_saver.specs.store_api.Lists.{with_config}
 
 -- what it was, or a record of this store, with its list or with an empty one
 abbrev pub IsSameOrRecord : {S : Type 0} → Durables S → S → Option (List ℕ) → Option (List ℕ) → Type 0

@@ -16,22 +16,22 @@ use Rattle.answers.specs.declared.answer.Answer.TheVariants.{Reply as Replied, M
 use Rattle.answers.specs.Hosts.{IsLongReply}
 use Rattle.answers.specs.Sessions.{Asked, FollowsAsked, is_violation, is_sync, is_synced, directory_faults, state_faults}
 use Rattle.answers.proofs.Looked.{long_stays}
-use Rattle.session_saver.specs.store_api.Holdings.{Holdings}
-use Rattle.session_saver.specs.outcome.Meanings.{Lawful, Meanings}
-use Rattle.session_saver.specs.store_api.Durables.{Durables, Records}
-use Rattle.session_saver.proofs.Steps.{stays_same, true_is_false}
+use Rattle.record_saver.specs.store_api.Holdings.{Holdings}
+use Rattle.record_saver.specs.store_outcome.Meanings.{Lawful, Meanings}
+use Rattle.record_saver.specs.store_api.Durables.{Durables, Records}
+use Rattle.record_saver.proofs.Steps.{stays_same, true_is_false}
 use Rattle.mount_core.specs.declared.body.Core.{Core}
 use Rattle.mount_core.specs.Answering.{store_of, IsBadLineAnswer, LineAnswers}
 use Rattle.mount_core.specs.Answers.{is_done_answer, is_structure, OnFound, OnReply, OnSpent}
 use Rattle.mount_core.specs.Causes.{MadeRoom, OnlyLoaded, PassedNone}
 use Rattle.mount_core.specs.Configuring.{ConfigAnswered}
 use Rattle.mount_core.specs.NoticeLaws.{none_came}
-use Rattle.tree_commands.specs.Performing.{Showing, IsReplyTo}
-use Rattle.tree_commands.specs.Performing as performing
-use Rattle.tree_commands.specs.Sparing.{OnWriteInside}
+use Rattle.path_layer.specs.Performing.{Showing, IsReplyTo}
+use Rattle.path_layer.specs.Performing as performing
+use Rattle.path_layer.specs.Sparing.{OnWriteInside}
 use Rattle.mount_core.specs.Sparing.{FewRaised}
 use Rattle.mount_core.specs.Standing.{Left}
-use Rattle.session_saver.specs.Saving.{world}
+use Rattle.record_saver.specs.Saving.{world}
 use Rattle.block_id.proofs.Conditions.{and_false}
 
 -- an answer that says nothing: of what was asked only that nothing was done

@@ -4,7 +4,7 @@ use Rattle.block_id.specs.declared.fail.Fail.TheVariants.{Memory as FailMemory, 
 use Rattle.block_id.specs.declared.fail.Why.{Why}
 use Rattle.answers.specs.declared.answer.Answer.{Answer}
 use Rattle.answers.specs.declared.answer.Answer.TheVariants.{Reply as Replied, Memory, Spent, FaultDirectory, FaultState, Violation, Refused}
-use Rattle.session_saver.specs.outcome.Meanings.{Tells}
+use Rattle.record_saver.specs.store_outcome.Meanings.{Tells}
 use Rattle.mount_core.specs.Answers.{answer_of_fail, Notices}
 
 -- where no wrong file came, none is passed over

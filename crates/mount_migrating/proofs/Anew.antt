@@ -8,12 +8,12 @@ use Rattle.mount_answering.specs.answers.Sessions.{state_faults}
 use Rattle.block_id.specs.declared.fail.Fail.{Fail}
 use Rattle.block_id.specs.declared.fail.Fail.TheVariants as fail
 use Rattle.fs_model.specs.Tree.{Tree}
-use Rattle.mount_answering.specs.outcome.Meanings.{Meanings, Lawful, IsCalm, IsOfBlocks, OnVerdict, HasCause, UnlessFault}
+use Rattle.mount_answering.specs.store_outcome.Meanings.{Meanings, Lawful, IsCalm, IsOfBlocks, OnVerdict, HasCause, UnlessFault}
 use Rattle.outside.specs.Causes.{RoseBy}
 use Rattle.outside.specs.Going.{goes_on_onward, goes_on_equal, goes_on_same}
 use Rattle.outside.specs.declared.keeper.Keeper.{Ghosts as KeeperGhosts}
-use Rattle.mount_answering.specs.session_saver.Saving.{world}
-use Rattle.mount_answering.specs.session_saver.declared.saver.Saver.{Saver}
+use Rattle.mount_answering.specs.record_saver.Saving.{world}
+use Rattle.mount_answering.specs.record_saver.declared.saver.Saver.{Saver}
 use Rattle.mount_answering.specs.store_api.Content.{Id, Changes, SameContent}
 use Rattle.mount_answering.proofs.store_api_lemmas.Rising.{same_id_is}
 use Rattle.mount_answering.specs.store_api.Durables.{Durables, Records, Enduring}

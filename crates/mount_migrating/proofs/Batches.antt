@@ -8,7 +8,7 @@ use Rattle.std.specs.declared.option.Option.TheVariants.{None, Some}
 use Rattle.std.proofs.lemmas.Option.{same_Some, none-some}
 use Rattle.mount_answering.proofs.data_tree_lemmas.Ids.{same_self}
 use Rattle.mount_answering.specs.mount_core.Drawing.{NamesKnown}
-use Rattle.mount_answering.specs.outcome.Meanings.{Meanings}
+use Rattle.mount_answering.specs.store_outcome.Meanings.{Meanings}
 use Rattle.mount_answering.proofs.store_api_lemmas.Rising.{ids_total, same_id_is}
 use Rattle.mount_answering.specs.store_api.Content.{Id, Content, SameContent, Changes, id_cmp, same_id, or_else, over}
 use Rattle.mount_answering.specs.store_api.Holdings.{Holdings, Steady, FitsStore, MayGet, has_id, gives_payload}

@@ -3,9 +3,9 @@ use Rattle.std.proofs.Common.{◌≡◌, ◌≤◌, ◌+◌, List, [], refl, sym
 use Rattle.std.specs.Prelude.{Result, OnOk, OnErr}
 use Rattle.std.specs.declared.result.Result.TheVariants.{Ok, Err}
 use Rattle.fs_model.specs.Tree.{Tree}
-use Rattle.mount_answering.specs.outcome.Meanings.{Meanings}
+use Rattle.mount_answering.specs.store_outcome.Meanings.{Meanings}
 use Rattle.outside.specs.declared.keeper.Keeper.{Ghosts as KeeperGhosts}
-use Rattle.mount_answering.specs.session_saver.Saving.{world}
+use Rattle.mount_answering.specs.record_saver.Saving.{world}
 use Rattle.mount_answering.specs.store_api.Content.{Id}
 use Rattle.mount_answering.specs.store_api.Durables.{Durables, Records}
 use Rattle.mount_answering.specs.store_api.Holdings.{Holdings}

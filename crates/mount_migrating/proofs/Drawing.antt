@@ -3,13 +3,13 @@ use Rattle.std.proofs.Common.{◌≡◌, ◌⊎◌, ◌++◌, ℕ, false, List, 
 use Rattle.std.specs.Prelude.{Result, Vec}
 use Rattle.std.specs.declared.option.Option.TheVariants.{Some}
 use Rattle.std.specs.declared.result.Result.TheVariants.{Ok, Err}
-use Rattle.mount_answering.specs.outcome.Meanings.{Meanings, Lawful}
+use Rattle.mount_answering.specs.store_outcome.Meanings.{Meanings, Lawful}
 use Rattle.outside.specs.declared.keeper.Keeper.{Ghosts as KeeperGhosts}
 use Rattle.rand_core.specs.Stream.{Stream}
-use Rattle.mount_answering.specs.session_saver.Saving.{world, Wrote, ShortSaved}
-use Rattle.mount_answering.specs.session_saver.declared.saver.Saver.{Saver}
-use Rattle.mount_answering.specs.session_saver.declared.saver.SyncError.{SyncError}
-use Rattle.mount_answering.specs.session_saver.declared.saver.SyncError.TheVariants.{Memory, FaultDirectory, FaultState}
+use Rattle.mount_answering.specs.record_saver.Saving.{world, Wrote, ShortSaved}
+use Rattle.mount_answering.specs.record_saver.declared.saver.Saver.{Saver}
+use Rattle.mount_answering.specs.record_saver.declared.saver.SyncError.{SyncError}
+use Rattle.mount_answering.specs.record_saver.declared.saver.SyncError.TheVariants.{Memory, FaultDirectory, FaultState}
 use Rattle.mount_answering.specs.store_api.Content.{Changes}
 use Rattle.mount_answering.specs.store_api.Durables.{Durables, Records}
 use Rattle.mount_answering.specs.store_api.Holdings.{Holdings}

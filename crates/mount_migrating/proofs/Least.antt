@@ -5,14 +5,14 @@ use Rattle.std.specs.declared.option.Option.{Option}
 use Rattle.std.specs.declared.option.Option.TheVariants.{Some}
 use Rattle.std.specs.declared.result.Result.TheVariants.{Ok, Err}
 use Rattle.fs_model.specs.Tree.{Tree}
-use Rattle.mount_answering.specs.outcome.Meanings.{Meanings}
+use Rattle.mount_answering.specs.store_outcome.Meanings.{Meanings}
 use Rattle.outside.specs.Causes.{RoseBy}
 use Rattle.outside.specs.Going.{goes_on_equal}
 use Rattle.outside.specs.declared.keeper.Keeper.{Ghosts as KeeperGhosts}
-use Rattle.mount_answering.specs.session_saver.Saving.{world, ShortSaved, UnlessState}
-use Rattle.mount_answering.specs.session_saver.declared.saver.Saver.{Saver}
-use Rattle.mount_answering.specs.session_saver.declared.saver.SyncError.{SyncError}
-use Rattle.mount_answering.specs.session_saver.declared.saver.SyncError.TheVariants as sync_error
+use Rattle.mount_answering.specs.record_saver.Saving.{world, ShortSaved, UnlessState}
+use Rattle.mount_answering.specs.record_saver.declared.saver.Saver.{Saver}
+use Rattle.mount_answering.specs.record_saver.declared.saver.SyncError.{SyncError}
+use Rattle.mount_answering.specs.record_saver.declared.saver.SyncError.TheVariants as sync_error
 use Rattle.mount_answering.specs.store_api.Content.{Changes}
 use Rattle.mount_answering.specs.store_api.Durables.{Identity, Durables, Records, Enduring}
 use Rattle.mount_answering.specs.store_api.Holdings.{Holdings, Steady, Stays}

@@ -6,11 +6,11 @@ use Rattle.std.specs.declared.result.Result.TheVariants.{Ok, Err}
 use Rattle.mount_answering.specs.answers.Sessions.{is_violation}
 use Rattle.block_id.specs.declared.fail.Why.{Why}
 use Rattle.fs_model.specs.Tree.{Tree}
-use Rattle.mount_answering.specs.outcome.Meanings.{Meanings}
+use Rattle.mount_answering.specs.store_outcome.Meanings.{Meanings}
 use Rattle.outside.specs.Causes.{RoseBy}
 use Rattle.outside.specs.Going.{GoesOn}
 use Rattle.outside.specs.declared.keeper.Keeper.{Ghosts as KeeperGhosts}
-use Rattle.mount_answering.specs.session_saver.Saving.{world, CanMark}
+use Rattle.mount_answering.specs.record_saver.Saving.{world, CanMark}
 use Rattle.mount_answering.specs.store_api.Content.{Changes, Id, SameIds}
 use Rattle.mount_answering.specs.store_api.Durables.{Durables, Records, Enduring, with_mark}
 use Rattle.mount_answering.specs.store_api.Holdings.{Holdings}

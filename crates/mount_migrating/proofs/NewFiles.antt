@@ -4,14 +4,14 @@ use Rattle.std.specs.FinMap as fin
 use Rattle.std.specs.declared.option.Option.{Option}
 use Rattle.std.specs.declared.option.Option.TheVariants.{None, Some}
 use Rattle.std.proofs.lemmas.Option.{same_Some, none-some}
-use Rattle.mount_answering.specs.outcome.Meanings.{Meanings}
+use Rattle.mount_answering.specs.store_outcome.Meanings.{Meanings}
 use Rattle.outside.specs.Changes.{FileChanges, IsIncreasing, change_at}
 use Rattle.outside.specs.Going.{GoesOn, goes_on_writes}
 use Rattle.outside.specs.Honest.{last_change}
 use Rattle.outside.specs.Trace.{At, Call, block}
 use Rattle.outside.specs.WriteLaws.{after_told, last_after, last_of}
 use Rattle.outside.specs.Writes.{after_writes}
-use Rattle.mount_answering.specs.session_saver.Saving.{Wrote}
+use Rattle.mount_answering.specs.record_saver.Saving.{Wrote}
 use Rattle.mount_answering.specs.store_api.Content.{Id, Changes}
 use Rattle.mount_answering.specs.store_api.Durables.{Durables, Records, Enduring, IsLastNew, IsNewFile, WasLastNew, last_told}
 use Rattle.mount_answering.specs.store_api.Holdings.{Holdings}

@@ -7,8 +7,8 @@ use Rattle.mount_answering.specs.answers.declared.answer.Answer.TheVariants.{Rep
 use Rattle.block_id.specs.declared.fail.Fail.{Fail}
 use Rattle.block_id.specs.declared.fail.Why.{Why}
 use Rattle.fs_model.specs.declared.reply.Reply.TheVariants.{Done}
-use Rattle.mount_answering.specs.outcome.Meanings.{Meanings, Lawful, Tells}
-use Rattle.mount_answering.specs.session_saver.Saving.{Wrote}
+use Rattle.mount_answering.specs.store_outcome.Meanings.{Meanings, Lawful, Tells}
+use Rattle.mount_answering.specs.record_saver.Saving.{Wrote}
 use Rattle.mount_answering.specs.store_api.Content.{Id, Changes}
 use Rattle.mount_answering.specs.store_api.Durables.{Durables}
 use Rattle.mount_answering.specs.store_api.Holdings.{Holdings, Stays}

@@ -3,11 +3,11 @@ use Rattle.std.proofs.Common.{◌≡◌, List, refl, ◌∙◌, subst, inl, inr,
 use Rattle.mount_answering.specs.answers.declared.answer.Answer.{Answer}
 use Rattle.mount_answering.specs.answers.Sessions.{directory_faults, state_faults}
 use Rattle.fs_model.specs.Tree.{Tree}
-use Rattle.mount_answering.specs.outcome.Meanings.{Meanings}
+use Rattle.mount_answering.specs.store_outcome.Meanings.{Meanings}
 use Rattle.outside.specs.Causes.{RoseBy}
 use Rattle.outside.specs.Going.{goes_on_onward, goes_on_same}
 use Rattle.outside.specs.declared.keeper.Keeper.{Ghosts as KeeperGhosts}
-use Rattle.mount_answering.specs.session_saver.Saving.{world}
+use Rattle.mount_answering.specs.record_saver.Saving.{world}
 use Rattle.mount_answering.specs.store_api.Content.{Id}
 use Rattle.mount_answering.specs.store_api.Durables.{Durables, Records}
 use Rattle.mount_answering.specs.store_api.Holdings.{Holdings}

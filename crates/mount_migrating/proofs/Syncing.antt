@@ -4,11 +4,11 @@ use Rattle.std.specs.Prelude.{Result}
 use Rattle.std.specs.declared.result.Result.TheVariants.{Ok, Err}
 use Rattle.mount_answering.specs.answers.declared.answer.Answer.TheVariants.{Reply as Replied}
 use Rattle.fs_model.specs.declared.reply.Reply.TheVariants.{Done}
-use Rattle.mount_answering.specs.outcome.Meanings.{Meanings}
+use Rattle.mount_answering.specs.store_outcome.Meanings.{Meanings}
 use Rattle.outside.specs.declared.keeper.Keeper.{Ghosts as KeeperGhosts}
-use Rattle.mount_answering.specs.session_saver.Saving.{world, Leaves}
-use Rattle.mount_answering.specs.session_saver.declared.saver.SyncError.{SyncError}
-use Rattle.mount_answering.specs.session_saver.declared.saver.SyncError.TheVariants as sync_error
+use Rattle.mount_answering.specs.record_saver.Saving.{world, Leaves}
+use Rattle.mount_answering.specs.record_saver.declared.saver.SyncError.{SyncError}
+use Rattle.mount_answering.specs.record_saver.declared.saver.SyncError.TheVariants as sync_error
 use Rattle.mount_answering.specs.store_api.Content.{Id, Changes}
 use Rattle.mount_answering.specs.store_api.Durables.{Durables, Records, Enduring}
 use Rattle.mount_answering.specs.store_api.Holdings.{Holdings}

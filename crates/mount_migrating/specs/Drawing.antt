@@ -4,7 +4,7 @@ use Rattle.std.specs.declared.option.Option.TheVariants.{Some}
 use Rattle.mount_answering.specs.answers.Sessions.{is_violation}
 use Rattle.mount_answering.specs.answers.declared.answer.Answer.{Answer}
 use Rattle.rand_core.specs.Stream.{Stream}
-use Rattle.mount_answering.specs.session_saver.Saving.{World, Wrote}
+use Rattle.mount_answering.specs.record_saver.Saving.{World, Wrote}
 use Rattle.mount_answering.specs.store_api.Content.{Changes}
 use Rattle.mount_answering.specs.store_api.Durables.{with_mark}
 use Rattle.mount_answering.specs.mount_core.declared.body.Core.{Core}

@@ -9,12 +9,12 @@ use Rattle.block_id.specs.declared.fail.Fail.TheVariants as fail
 use Rattle.block_id.specs.declared.fail.Why.{Why}
 use Rattle.fs_model.specs.Tree.{Tree}
 use Rattle.fs_model.specs.declared.reply.Reply.TheVariants.{Done}
-use Rattle.mount_answering.specs.outcome.Meanings.{Meanings}
+use Rattle.mount_answering.specs.store_outcome.Meanings.{Meanings}
 use Rattle.outside.specs.Causes.{RoseBy}
 use Rattle.outside.specs.Going.{GoesOn}
-use Rattle.mount_answering.specs.session_saver.Saving.{World}
-use Rattle.mount_answering.specs.session_saver.declared.saver.SyncError.{SyncError}
-use Rattle.mount_answering.specs.session_saver.declared.saver.SyncError.TheVariants as sync_error
+use Rattle.mount_answering.specs.record_saver.Saving.{World}
+use Rattle.mount_answering.specs.record_saver.declared.saver.SyncError.{SyncError}
+use Rattle.mount_answering.specs.record_saver.declared.saver.SyncError.TheVariants as sync_error
 use Rattle.mount_answering.specs.store_api.Content.{Id, SameIds}
 use Rattle.mount_answering.specs.store_api.Durables.{Durables, IsNewFile}
 use Rattle.mount_answering.specs.store_api.Holdings.{Holdings, has_id}

@@ -5,8 +5,8 @@ use Rattle.std.specs.declared.option.Option.TheVariants.{Some}
 use Rattle.mount_answering.specs.answers.declared.answer.Answer.{Answer}
 use Rattle.block_id.specs.declared.fail.Why.{Why}
 use Rattle.mount_answering.specs.mount_core.Answers.{Notices}
-use Rattle.mount_answering.specs.outcome.Meanings.{Meanings}
-use Rattle.mount_answering.specs.session_saver.Saving.{Wrote}
+use Rattle.mount_answering.specs.store_outcome.Meanings.{Meanings}
+use Rattle.mount_answering.specs.record_saver.Saving.{Wrote}
 use Rattle.mount_answering.specs.store_api.Content.{Id, Changes}
 use Rattle.mount_answering.specs.store_api.Durables.{Durables}
 use Rattle.mount_answering.specs.store_api.Holdings.{Holdings, Stays}

@@ -3,7 +3,7 @@ ghost use Rattle.std.specs.Prelude.{◌≡◌};
 ghost use Rattle.mount_migrating.specs.Migrating.{error_of_apply, error_of_fail, error_of_sync};
 
 use block_id::{Fail, Why};
-use mount_answering::session_saver::SyncError;
+use mount_answering::record_saver::SyncError;
 use mount_answering::store_api::ApplyError;
 
 /// Why blocks aren't all written anew.

@@ -11,4 +11,4 @@ pub use migrating::migrate_ids;
 
 // Handed on to crates above, which needn't list them.
 pub use mount_answering;
-pub use mount_answering::{script_text, session_saver};
+pub use mount_answering::{record_saver, script_text};

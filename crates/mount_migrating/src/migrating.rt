@@ -1,7 +1,7 @@
 // All blocks, and the record.
 ghost use Rattle.std.specs.Prelude.{◌≡◌, false, map, OnOk};
 ghost use Rattle.mount_answering.specs.data_tree.Trees.{NoDoubles};
-ghost use Rattle.mount_answering.specs.session_saver.Saving.{world};
+ghost use Rattle.mount_answering.specs.record_saver.Saving.{world};
 ghost use Rattle.mount_answering.specs.mount_core.Showing.{ShowsFiles};
 ghost use Rattle.mount_answering.specs.mount_core.Standing.{Ready};
 ghost use Rattle.mount_migrating.specs.Drawing.{DrawsAnew, DrawsMarked};

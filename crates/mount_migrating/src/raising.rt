@@ -1,6 +1,6 @@
 // The record that says that no older format is taken.
 ghost use Rattle.std.specs.Prelude.{◌≡◌, false, OnOk, OnErr};
-ghost use Rattle.mount_answering.specs.session_saver.Saving.{world};
+ghost use Rattle.mount_answering.specs.record_saver.Saving.{world};
 ghost use Rattle.mount_answering.specs.store_api.Durables.{MayBeLeast};
 ghost use Rattle.mount_answering.specs.mount_core.Showing.{ShowsFiles};
 ghost use Rattle.mount_answering.specs.mount_core.Standing.{Ready};

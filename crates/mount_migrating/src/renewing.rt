@@ -2,7 +2,7 @@
 ghost use Rattle.std.specs.Prelude.{◌≡◌, ◌<◌, true, false, is_some, [], ◌∷◌, map, OnOk};
 ghost use Rattle.fs_model.specs.Tree.{Tree};
 ghost use Rattle.mount_answering.specs.data_tree.Trees.{NoDoubles};
-ghost use Rattle.mount_answering.specs.session_saver.Saving.{world};
+ghost use Rattle.mount_answering.specs.record_saver.Saving.{world};
 ghost use Rattle.mount_answering.specs.store_api.Lists.{waiting_bytes};
 ghost use Rattle.mount_answering.specs.mount_core.Showing.{ShowsFiles};
 ghost use Rattle.mount_answering.specs.mount_core.Drawing.{DrawsOnce, NamesKnown};

@@ -13,3 +13,4 @@ pub mod Trace
 pub mod View
 pub mod WriteLaws
 pub mod Writes
+pub mod FileTexts

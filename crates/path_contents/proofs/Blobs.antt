@@ -6,19 +6,19 @@ use Rattle.std.specs.List.{list_any}
 use Rattle.std.specs.declared.option.Option.TheVariants.{Some}
 use Rattle.std.proofs.lemmas.Bool.{and_parts, leb-true}
 use Rattle.std.proofs.lemmas.List.{take_all}
-use Rattle.path_entries.specs.blob_api.declared.blobs.TheConstants.{MAX_BLOB}
-use Rattle.path_entries.specs.blob_api.BlobMap.{Id, BlobMap, BlobHoldings}
+use Rattle.path_walks.specs.blob_api.declared.blobs.TheConstants.{MAX_BLOB}
+use Rattle.path_walks.specs.blob_api.BlobMap.{Id, BlobMap, BlobHoldings}
 use Rattle.fs_model.specs.declared.attr.Kind.{Kind}
 use Rattle.fs_model.specs.declared.attr.Kind.TheVariants.{Directory, File, Link}
 use Rattle.fs_model.specs.declared.limits.TheConstants.{MAX_FILE, MAX_TARGET}
 use Rattle.fs_model.specs.Names.{is_zero}
 use Rattle.fs_model.specs.Tree.{Path, Row, Tree, is_directory, FitsKind}
-use Rattle.path_entries.specs.fs_blobs.declared.header.TheConstants.{HEADER_LEN}
-use Rattle.path_entries.specs.fs_blobs.Headers.{blob}
-use Rattle.path_entries.specs.fs_blobs.Blobs.{IsBlob}
-use Rattle.path_entries.specs.forest.Nodes.{Look, IsBodyOf, IsBlobOf}
-use Rattle.path_entries.specs.forest.Shows.{above, entries_at, ShowsBy}
-use Rattle.path_entries.proofs.path_walks_lemmas.Nodes.{above_wide, content_fits}
+use Rattle.path_walks.specs.fs_blobs.declared.header.TheConstants.{HEADER_LEN}
+use Rattle.path_walks.specs.fs_blobs.Headers.{blob}
+use Rattle.path_walks.specs.fs_blobs.Blobs.{IsBlob}
+use Rattle.path_walks.specs.Nodes.{Look, IsBodyOf, IsBlobOf}
+use Rattle.path_walks.specs.Shows.{above, entries_at, ShowsBy}
+use Rattle.path_walks.proofs.Nodes.{above_wide, content_fits}
 
 plain_is : (kind : Kind) (bytes : List ℕ) (look : Look) (body : List ℕ) → is_directory kind ≡ false → IsBodyOf kind bytes look body → body ≡ bytes
 plain_is Directory bytes look body e c = let bad : true ≡ false = e in cc

@@ -3,18 +3,18 @@ use Rattle.std.proofs.Common.{◌≡◌, ℕ, ◌+◌, ◌≤◌, Bool, false, l
 use Rattle.std.specs.Prelude.{Result, ◌||◌, min, nat_lt}
 use Rattle.std.proofs.lemmas.Bool.{cases_lt, le-ltb}
 use Rattle.block_id.specs.declared.fail.Fail.{Fail}
-use Rattle.path_entries.specs.outcome.Meanings.{Meanings}
-use Rattle.path_entries.specs.outcome.Outcome.{Outcome, first_}
-use Rattle.path_entries.specs.blob_api.BlobMap.{BlobHoldings}
-use Rattle.path_entries.specs.fs_blobs.Blobs.{IsBlob}
+use Rattle.path_walks.specs.store_outcome.Meanings.{Meanings}
+use Rattle.path_walks.specs.store_outcome.Outcome.{Outcome, first_}
+use Rattle.path_walks.specs.blob_api.BlobMap.{BlobHoldings}
+use Rattle.path_walks.specs.fs_blobs.Blobs.{IsBlob}
 use Rattle.fs_model.specs.declared.attr.Kind.TheVariants.{File}
 use Rattle.fs_model.specs.declared.limits.TheConstants.{MAX_FILE, MAX_GROWTH}
 use Rattle.fs_model.specs.Tree.{is_directory}
 use Rattle.fs_model.specs.Step.{is_too_long}
 use Rattle.fs_model.proofs.Lengths.{end_tests}
-use Rattle.path_entries.specs.path_walks.declared.spots.Occupancy.{Occupancy}
-use Rattle.path_entries.specs.path_walks.Sights.{Finding}
-use Rattle.path_entries.proofs.path_walks_lemmas.Found.{q, is_folder_by}
+use Rattle.path_walks.specs.declared.spots.Occupancy.{Occupancy}
+use Rattle.path_walks.specs.Sights.{Finding}
+use Rattle.path_walks.proofs.Found.{q, is_folder_by}
 use Rattle.path_contents.proofs.Blobs.{blob_at, plain_body}
 
 short_is : (old x : ℕ) → x ≤ MAX_FILE → x ≤ old + MAX_GROWTH → is_too_long old x ≡ false

@@ -1,6 +1,6 @@
 -- A directory of the shown tree, as its blob.
 use Rattle.std.proofs.Common.{◌≡◌, map, sym, ◌∙◌, ap, cond, ℕ, List, [], ◌∷◌, true, refl}
-use Rattle.path_entries.specs.blob_api.BlobMap.{Id, BlobHoldings}
+use Rattle.path_walks.specs.blob_api.BlobMap.{Id, BlobHoldings}
 use Rattle.fs_model.specs.declared.attr.Kind.TheVariants.{Directory}
 use Rattle.fs_model.specs.declared.reply.Reply.TheVariants.{Rows}
 use Rattle.fs_model.specs.declared.error.FsError.TheVariants.{NotDirectory}
@@ -8,16 +8,16 @@ use Rattle.fs_model.specs.Tree.{is_directory, children, Path, Row, Tree, name_cm
 use Rattle.fs_model.specs.LookUp.{Found}
 use Rattle.fs_model.specs.Step.{listed, answered, refused, list_row}
 use Rattle.std.specs.FinMap.{entries, find}
-use Rattle.path_entries.specs.dir_blob.Directories.{IsDirectory}
+use Rattle.path_walks.specs.dir_blob.Directories.{IsDirectory}
 use Rattle.path_contents.specs.Listed.{InFolder, shown_row}
-use Rattle.path_entries.proofs.path_walks_lemmas.Nodes.{lists_at, directory_at}
-use Rattle.path_entries.proofs.path_walks_lemmas.Steps.{folder_is}
+use Rattle.path_walks.proofs.Nodes.{lists_at, directory_at}
+use Rattle.path_walks.proofs.Steps.{folder_is}
 use Rattle.fs_model.specs.declared.attr.Attr.{Attr}
 use Rattle.fs_model.specs.declared.reply.ListRow.{ListRow}
 use Rattle.std.specs.FinMap.Entries.{is_sorted}
-use Rattle.path_entries.specs.dir_entries.Layout.{EntryTarget, Listing}
-use Rattle.path_entries.specs.forest.Shows.{entries_at}
-use Rattle.path_entries.proofs.path_walks_lemmas.Sizes.{with_values, attrs_shown}
+use Rattle.path_walks.specs.dir_entries.Layout.{EntryTarget, Listing}
+use Rattle.path_walks.specs.Shows.{entries_at}
+use Rattle.path_walks.proofs.Sizes.{with_values, attrs_shown}
 
 row_of : List ℕ × Attr → ListRow
 row_of e = record { kind = e.1.kind; name = e.0 }

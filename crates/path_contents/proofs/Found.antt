@@ -2,7 +2,7 @@
 use Rattle.std.proofs.Common.{◌≡◌, ℕ, ◌≤◌, List, ◌∷◌, refl, sym, ◌∙◌, ap, subst}
 use Rattle.std.specs.FinMap.{get, insert}
 use Rattle.std.specs.declared.option.Option.TheVariants.{Some}
-use Rattle.path_entries.specs.blob_api.BlobMap.{Id, BlobHoldings}
+use Rattle.path_walks.specs.blob_api.BlobMap.{Id, BlobHoldings}
 use Rattle.fs_model.specs.declared.attr.Attr.{Attr}
 use Rattle.fs_model.specs.declared.limits.TheConstants.{MAX_MODE}
 use Rattle.fs_model.specs.declared.reply.Reply.TheVariants.{Done}
@@ -10,18 +10,18 @@ use Rattle.fs_model.specs.Instant.{Instant}
 use Rattle.fs_model.specs.Tree.{is_directory, FitsKind, IsWellFormed}
 use Rattle.fs_model.specs.Step.{done}
 use Rattle.fs_model.proofs.PutRows.{insert_found}
-use Rattle.path_entries.specs.forest.Showing.{IsShownBy, Performed}
-use Rattle.path_entries.specs.forest.Nodes.{Lists}
-use Rattle.path_entries.specs.forest.Shows.{entries_at}
-use Rattle.path_entries.specs.path_walks.declared.spots.Occupancy.{Occupancy}
-use Rattle.path_entries.specs.Entries.{SettingIn}
-use Rattle.path_entries.specs.tree_rules.declared.attributes.AttrChange.{AttrChange}
-use Rattle.path_entries.specs.tree_rules.declared.attributes.AttrChange.TheVariants.{Mode, Owner, Times}
-use Rattle.path_entries.specs.tree_rules.Changes.{changed_by}
+use Rattle.path_walks.specs.Showing.{IsShownBy, Performed}
+use Rattle.path_walks.specs.Nodes.{Lists}
+use Rattle.path_walks.specs.Shows.{entries_at}
+use Rattle.path_walks.specs.declared.spots.Occupancy.{Occupancy}
+use Rattle.path_walks.specs.Entries.{SettingIn}
+use Rattle.fs_model.specs.declared.attributes.AttrChange.{AttrChange}
+use Rattle.fs_model.specs.declared.attributes.AttrChange.TheVariants.{Mode, Owner, Times}
+use Rattle.fs_model.specs.Changes.{changed_by}
 use Rattle.path_contents.specs.Attributes.{ChangeFits}
-use Rattle.path_entries.specs.path_walks.Sights.{Finding}
-use Rattle.path_entries.proofs.path_walks_lemmas.Told.{shown_done}
-use Rattle.path_entries.proofs.path_walks_lemmas.Found.{q, is_kind}
+use Rattle.path_walks.specs.Sights.{Finding}
+use Rattle.path_walks.proofs.Told.{shown_done}
+use Rattle.path_walks.proofs.Found.{q, is_kind}
 
 pub kind_kept : (c : AttrChange) (now : Instant) (a : Attr) → a.kind ≡ (changed_by c now a).kind
 kind_kept (Mode mode) now a = refl

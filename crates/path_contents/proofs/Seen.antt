@@ -2,7 +2,7 @@
 use Rattle.std.proofs.Common.{◌≡◌, false, [], ◌∷◌, refl, sym, ◌∙◌, ap, subst}
 use Rattle.std.specs.FinMap.{get}
 use Rattle.std.proofs.lemmas.Option.{none-some}
-use Rattle.path_entries.specs.blob_api.BlobMap.{Id, BlobHoldings}
+use Rattle.path_walks.specs.blob_api.BlobMap.{Id, BlobHoldings}
 use Rattle.fs_model.specs.declared.attr.Kind.TheVariants.{Directory}
 use Rattle.fs_model.specs.declared.error.FsError.{FsError}
 use Rattle.fs_model.specs.declared.error.FsError.TheVariants.{NoEntry}
@@ -10,12 +10,12 @@ use Rattle.fs_model.specs.Tree.{Path, Tree, IsRooted, is_directory}
 use Rattle.fs_model.specs.LookUp.{LookedUp, Found, Free, Bad, look, goes_on}
 use Rattle.fs_model.specs.Step.{Stepped, refused}
 use Rattle.fs_model.proofs.LookUpLemmas.{look-walk, get-found}
-use Rattle.path_entries.specs.forest.Shows.{ShowsBy}
-use Rattle.path_entries.specs.forest.Showing.{BlobsShow, Performed}
-use Rattle.path_entries.specs.path_walks.declared.spots.Place.{Place}
-use Rattle.path_entries.specs.path_walks.declared.spots.Spot.{Spot}
-use Rattle.path_entries.specs.path_walks.declared.spots.Spot.TheVariants.{Here}
-use Rattle.path_entries.specs.path_walks.Sights.{IsAt, IsWrong, SpotIs, Standing}
+use Rattle.path_walks.specs.Shows.{ShowsBy}
+use Rattle.path_walks.specs.Showing.{BlobsShow, Performed}
+use Rattle.path_walks.specs.declared.spots.Place.{Place}
+use Rattle.path_walks.specs.declared.spots.Spot.{Spot}
+use Rattle.path_walks.specs.declared.spots.Spot.TheVariants.{Here}
+use Rattle.path_walks.specs.Sights.{IsAt, IsWrong, SpotIs, Standing}
 use Rattle.path_contents.specs.Listed.{InFolder}
 use Rattle.path_contents.specs.Places.{Holding}
 use Rattle.fs_model.specs.declared.reply.Reply.{Reply}

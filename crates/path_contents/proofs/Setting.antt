@@ -4,30 +4,30 @@ use Rattle.std.specs.Prelude.{is_some}
 use Rattle.std.specs.FinMap.{get, find, insert, put}
 use Rattle.std.specs.declared.option.Option.TheVariants.{Some}
 use Rattle.std.proofs.lemmas.Option.{none-some}
-use Rattle.path_entries.specs.outcome.Meanings.{Meanings}
-use Rattle.path_entries.specs.blob_api.declared.blobs.TheConstants.{MAX_BLOB}
+use Rattle.path_walks.specs.store_outcome.Meanings.{Meanings}
+use Rattle.path_walks.specs.blob_api.declared.blobs.TheConstants.{MAX_BLOB}
 use Rattle.block_id.specs.Contents.{resized, written, pieces}
 use Rattle.block_id.proofs.Contents.{length-overwritten, length-resized}
-use Rattle.path_entries.specs.blob_api.BlobMap.{Id, BlobMap, BlobHoldings, BlobsSteady, IsSparing}
+use Rattle.path_walks.specs.blob_api.BlobMap.{Id, BlobMap, BlobHoldings, BlobsSteady, IsSparing}
 use Rattle.fs_model.specs.declared.limits.TheConstants.{MAX_FILE}
 use Rattle.fs_model.specs.declared.attr.Kind.{Kind}
 use Rattle.fs_model.specs.declared.attr.Kind.TheVariants.{Directory, File}
 use Rattle.fs_model.specs.Tree.{name_cmp, directory_size, FitsKind}
-use Rattle.path_entries.specs.fs_blobs.declared.header.TheConstants.{HEADER_LEN}
-use Rattle.path_entries.specs.fs_blobs.Headers.{blob}
-use Rattle.path_entries.specs.fs_blobs.Blobs.{IsBlob}
-use Rattle.path_entries.specs.dir_entries.Layout.{EntryTarget, body_of}
-use Rattle.path_entries.specs.dir_blob.Directories.{HasName, HasNameIn, HasEntries}
-use Rattle.path_entries.specs.forest.Nodes.{Look, IsBodyOf, IsBlobOf}
-use Rattle.path_entries.specs.forest.Shows.{above, entries_at}
-use Rattle.path_entries.proofs.forest_lemmas.Forests.{map_apart}
-use Rattle.path_entries.proofs.dir_entries_lemmas.Bodies.{no_more}
-use Rattle.path_entries.proofs.forest_lemmas.Shown.{content_shows}
-use Rattle.path_entries.specs.forest.Showing.{IsShownBy}
-use Rattle.path_entries.specs.Entries.{Setting, SettingIn}
-use Rattle.path_entries.proofs.Setting.{q, folder, row_above, present, has_name, listed, row_with, lists_then, body_here}
+use Rattle.path_walks.specs.fs_blobs.declared.header.TheConstants.{HEADER_LEN}
+use Rattle.path_walks.specs.fs_blobs.Headers.{blob}
+use Rattle.path_walks.specs.fs_blobs.Blobs.{IsBlob}
+use Rattle.path_walks.specs.dir_entries.Layout.{EntryTarget, body_of}
+use Rattle.path_walks.specs.dir_blob.Directories.{HasName, HasNameIn, HasEntries}
+use Rattle.path_walks.specs.Nodes.{Look, IsBodyOf, IsBlobOf}
+use Rattle.path_walks.specs.Shows.{above, entries_at}
+use Rattle.path_walks.proofs.Forests.{map_apart}
+use Rattle.path_walks.proofs.dir_entries_lemmas.Bodies.{no_more}
+use Rattle.path_walks.proofs.Shown.{content_shows}
+use Rattle.path_walks.specs.Showing.{IsShownBy}
+use Rattle.path_walks.specs.Entries.{Setting, SettingIn}
+use Rattle.path_walks.proofs.Setting.{q, folder, row_above, present, has_name, listed, row_with, lists_then, body_here}
 use Rattle.path_contents.specs.Sparing.{IsSparingTwice}
-use Rattle.path_entries.proofs.path_walks_lemmas.Nodes.{above_wide, size_at}
+use Rattle.path_walks.proofs.Nodes.{above_wide, size_at}
 
 module _ {S : Type 0} {H : BlobHoldings S} {a : S} {dir : Id} {e : List ℕ × EntryTarget} (w : Setting H a dir e) where
   pub some_body : 1 ≤ length (body_of (has_name w).is.listing)

@@ -1,8 +1,8 @@
 -- How few blocks a write changed, after calls that only looked.
 use Rattle.std.proofs.Common.{◌≡◌, ℕ, ◌+◌, ◌≤◌, ◌∙◌, ap, arith}
-use Rattle.path_entries.specs.outcome.Meanings.{Meanings}
+use Rattle.path_walks.specs.store_outcome.Meanings.{Meanings}
 use Rattle.block_id.specs.Contents.{pieces}
-use Rattle.path_entries.specs.blob_api.BlobMap.{BlobHoldings, BlobsSteady}
+use Rattle.path_walks.specs.blob_api.BlobMap.{BlobHoldings, BlobsSteady}
 use Rattle.path_contents.specs.Sparing.{IsSparingTwice}
 
 not_more : (x y a b : ℕ) → y ≡ x → y ≤ x + a + b + 2

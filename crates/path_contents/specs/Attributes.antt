@@ -1,8 +1,8 @@
 -- Changes of attributes that a tree takes.
 use Rattle.std.specs.Prelude.{◌≤◌}
 use Rattle.fs_model.specs.declared.limits.TheConstants.{MAX_MODE}
-use Rattle.path_entries.specs.tree_rules.declared.attributes.AttrChange.{AttrChange}
-use Rattle.path_entries.specs.tree_rules.declared.attributes.AttrChange.TheVariants.{Mode, Owner, Times}
+use Rattle.fs_model.specs.declared.attributes.AttrChange.{AttrChange}
+use Rattle.fs_model.specs.declared.attributes.AttrChange.TheVariants.{Mode, Owner, Times}
 
 -- a mode is within its limit
 abbrev pub ChangeFits : AttrChange → Type 0

@@ -1,13 +1,13 @@
 -- What listing needs.
 use Rattle.std.specs.Prelude.{◌≡◌, ℕ, List}
-use Rattle.path_entries.specs.blob_api.BlobMap.{Id, BlobHoldings}
+use Rattle.path_walks.specs.blob_api.BlobMap.{Id, BlobHoldings}
 use Rattle.fs_model.specs.declared.attr.Kind.TheVariants.{Directory}
 use Rattle.fs_model.specs.declared.reply.ListRow.{ListRow}
 use Rattle.fs_model.specs.declared.reply.Reply.{Reply}
 use Rattle.fs_model.specs.declared.reply.Reply.TheVariants.{Done, Rows, Info, Target as LinkTarget, Content, Error}
-use Rattle.path_entries.specs.dir_entries.Layout.{EntryTarget}
-use Rattle.path_entries.specs.path_walks.declared.spots.Place.{Place}
-use Rattle.path_entries.specs.path_walks.Sights.{Standing}
+use Rattle.path_walks.specs.dir_entries.Layout.{EntryTarget}
+use Rattle.path_walks.specs.declared.spots.Place.{Place}
+use Rattle.path_walks.specs.Sights.{Standing}
 
 -- what a listing shows of an entry
 abbrev pub shown_row : List ℕ × EntryTarget → ListRow

@@ -3,7 +3,7 @@ use Rattle.std.specs.Prelude.{◌≡◌, ◌≤◌, ◌+◌, ℕ, length}
 use Rattle.block_id.specs.Contents.{pieces}
 use Rattle.std.specs.FinMap.{get}
 use Rattle.std.specs.declared.option.Option.TheVariants.{Some}
-use Rattle.path_entries.specs.blob_api.BlobMap.{BlobHoldings}
+use Rattle.path_walks.specs.blob_api.BlobMap.{BlobHoldings}
 use Rattle.fs_model.specs.declared.attr.Kind.TheVariants.{File}
 use Rattle.fs_model.specs.Tree.{Path, Row, Tree, parent, directory_size}
 

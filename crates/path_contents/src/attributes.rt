@@ -1,22 +1,20 @@
 // Commands that set attributes.
 ghost use Rattle.std.specs.Prelude.{◌≤◌, ◌∷◌, IfOk};
-ghost use Rattle.path_entries.specs.outcome.Outcome.{Outcome};
+ghost use Rattle.path_walks.specs.store_outcome.Outcome.{Outcome};
 ghost use Rattle.fs_model.specs.Tree.{upward};
 ghost use Rattle.fs_model.specs.LookUp.{Found, look};
 ghost use Rattle.fs_model.specs.Step.{unless_root, attributes_set};
-ghost use Rattle.path_entries.specs.forest.Showing.{BlobsShow, Performed};
-ghost use Rattle.path_entries.specs.tree_rules.Changes.{changed_by};
-ghost use Rattle.path_entries.specs.path_walks.Replies.{IsChangeReply};
+ghost use Rattle.path_walks.specs.Showing.{BlobsShow, Performed};
+ghost use Rattle.fs_model.specs.Changes.{changed_by};
+ghost use Rattle.path_walks.specs.Replies.{IsChangeReply};
 ghost use Rattle.path_contents.specs.Attributes.{ChangeFits};
-ghost use Rattle.path_entries.specs.path_walks.Sights.{Finding};
+ghost use Rattle.path_walks.specs.Sights.{Finding};
 
 use block_id::{BlockId, Fail};
-use fs_model::{FsError, MAX_MODE, Moment, Name, Reply};
-use path_entries::blob_api::Blobs;
-use path_entries::dir_entries::Entry;
-use path_entries::path_walks::{Occupancy, Reached, done, reach};
-use path_entries::set_entry_in;
-use path_entries::tree_rules::{AttrChange, changed};
+use fs_model::{AttrChange, FsError, MAX_MODE, Moment, Name, Reply, changed};
+use path_walks::blob_api::Blobs;
+use path_walks::dir_entries::Entry;
+use path_walks::{Occupancy, Reached, done, reach, set_entry_in};
 use std::alloc::Global;
 
 /// Sets attributes of all but the root.

@@ -2,21 +2,21 @@
 ghost use Rattle.std.specs.Prelude.{◌≡◌, ◌≤◌, ◌+◌, ◌∷◌, length};
 ghost use Rattle.std.specs.FinMap.{insert as with_key};
 ghost use Rattle.fs_model.specs.declared.attr.Kind.TheVariants.{File};
-ghost use Rattle.path_entries.specs.outcome.Outcome.{Outcome};
+ghost use Rattle.path_walks.specs.store_outcome.Outcome.{Outcome};
 ghost use Rattle.block_id.specs.Contents.{resized, written};
 ghost use Rattle.fs_model.specs.Tree.{directory_size};
-ghost use Rattle.path_entries.specs.dir_entries.Layout.{entry_of};
-ghost use Rattle.path_entries.specs.forest.Showing.{IsShownBy};
-ghost use Rattle.path_entries.specs.Entries.{SettingIn};
+ghost use Rattle.path_walks.specs.dir_entries.Layout.{entry_of};
+ghost use Rattle.path_walks.specs.Showing.{IsShownBy};
+ghost use Rattle.path_walks.specs.Entries.{SettingIn};
 ghost use Rattle.path_contents.specs.Sparing.{IsSparingTwice};
 
 use block_id::Fail;
 use fs_model::{MAX_FILE, MAX_MODE};
-use path_entries::blob_api::Blobs;
-use path_entries::dir_blob::change_in;
-use path_entries::dir_entries::Entry;
-use path_entries::fs_blobs::{resize_body, write_body};
-use path_entries::path_walks::Occupancy;
+use path_walks::Occupancy;
+use path_walks::blob_api::Blobs;
+use path_walks::dir_blob::change_in;
+use path_walks::dir_entries::Entry;
+use path_walks::fs_blobs::{resize_body, write_body};
 use std::alloc::Global;
 
 /// A file that was found gets these bytes at `from`, and its entry the new attributes.

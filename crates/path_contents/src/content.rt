@@ -1,26 +1,24 @@
 // Commands that change the content of a file.
 ghost use Rattle.std.specs.Prelude.{◌≡◌, ◌≤◌, ◌∷◌, IfOk, false, length};
-ghost use Rattle.path_entries.specs.outcome.Outcome.{Outcome};
+ghost use Rattle.path_walks.specs.store_outcome.Outcome.{Outcome};
 ghost use Rattle.fs_model.specs.Tree.{upward, directory_size};
 ghost use Rattle.fs_model.specs.LookUp.{Found, look};
 ghost use Rattle.fs_model.specs.Step.{written, truncated};
 ghost use Rattle.fs_model.specs.Step as step;
 ghost use Rattle.fs_model.specs.declared.limits.TheConstants.{MAX_FILE};
-ghost use Rattle.path_entries.specs.forest.Showing.{BlobsShow, Performed};
-ghost use Rattle.path_entries.specs.path_walks.Replies.{IsChangeReply};
-ghost use Rattle.path_entries.specs.fs_blobs.Blobs.{IsBlob};
+ghost use Rattle.path_walks.specs.Showing.{BlobsShow, Performed};
+ghost use Rattle.path_walks.specs.Replies.{IsChangeReply};
+ghost use Rattle.path_walks.specs.fs_blobs.Blobs.{IsBlob};
 ghost use Rattle.path_contents.specs.Sparing.{IsSparingTwice, IsSparingAt};
-ghost use Rattle.path_entries.specs.path_walks.Sights.{Finding};
+ghost use Rattle.path_walks.specs.Sights.{Finding};
 
 use crate::changes::{resize_at, write_at};
 use crate::places::content_refusal;
 use block_id::{BlockId, Fail};
-use fs_model::{FsError, MAX_GROWTH, MAX_MODE, Moment, Name, Reply};
-use path_entries::blob_api::Blobs;
-use path_entries::fs_blobs::body_len;
-use path_entries::path_walks::{Occupancy, Reached, done, reach};
-use path_entries::touched;
-use path_entries::tree_rules::is_too_long;
+use fs_model::{FsError, MAX_GROWTH, MAX_MODE, Moment, Name, Reply, is_too_long};
+use path_walks::blob_api::Blobs;
+use path_walks::fs_blobs::body_len;
+use path_walks::{Occupancy, Reached, done, reach, touched};
 use std::alloc::Global;
 
 /// The bytes are written at `from`.

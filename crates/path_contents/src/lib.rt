@@ -13,4 +13,4 @@ pub use content::{truncate, write};
 pub use reading::{list, read, read_link, stat};
 
 // Handed on to crates above, which needn't list them.
-pub use path_entries::{dir_blob, dir_entries, fs_blobs, tree_rules};
+pub use path_walks::{dir_blob, dir_entries, fs_blobs, fs_model};

@@ -1,16 +1,16 @@
 // The rows of a directory.
 ghost use Rattle.std.specs.Prelude.{◌≡◌, IfOk, map};
-ghost use Rattle.path_entries.specs.outcome.Outcome.{Outcome};
+ghost use Rattle.path_walks.specs.store_outcome.Outcome.{Outcome};
 ghost use Rattle.fs_model.specs.LookUp.{Found};
 ghost use Rattle.fs_model.specs.Step.{listed};
-ghost use Rattle.path_entries.specs.dir_entries.Layout.{listing_of};
+ghost use Rattle.path_walks.specs.dir_entries.Layout.{listing_of};
 ghost use Rattle.path_contents.specs.Listed.{InFolder, IsListReply, shown_row};
 
 use block_id::{BlockId, Fail, Memory};
 use fs_model::{ListRow, Reply, RowList};
-use path_entries::blob_api::Blobs;
-use path_entries::dir_blob::entries;
-use path_entries::dir_entries::Entry;
+use path_walks::blob_api::Blobs;
+use path_walks::dir_blob::entries;
+use path_walks::dir_entries::Entry;
 use std::alloc::Global;
 
 /// Kind and name of each entry.

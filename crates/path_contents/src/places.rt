@@ -1,17 +1,17 @@
 // What the blob of a place has.
 ghost use Rattle.std.specs.Prelude.{◌≡◌, length, take, drop, MatchOption};
-ghost use Rattle.path_entries.specs.outcome.Outcome.{Outcome};
+ghost use Rattle.path_walks.specs.store_outcome.Outcome.{Outcome};
 ghost use Rattle.fs_model.specs.declared.attr.Kind.TheVariants.{File};
 ghost use Rattle.fs_model.specs.Step.{Stepped, refused, on_file};
 ghost use Rattle.fs_model.specs.Tree.{Tree};
-ghost use Rattle.path_entries.specs.path_walks.Sights.{Standing};
+ghost use Rattle.path_walks.specs.Sights.{Standing};
 ghost use Rattle.path_contents.specs.Places.{Holding};
 
 use block_id::Fail;
 use fs_model::{FsError, Kind};
-use path_entries::blob_api::Blobs;
-use path_entries::fs_blobs::{body_len, read_body};
-use path_entries::path_walks::Place;
+use path_walks::Place;
+use path_walks::blob_api::Blobs;
+use path_walks::fs_blobs::{body_len, read_body};
 use std::alloc::Global;
 
 /// The bytes of a row: a directory has none.

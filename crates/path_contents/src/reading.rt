@@ -1,18 +1,18 @@
 // Commands that only look.
 ghost use Rattle.std.specs.Prelude.{◌≡◌, IfOk};
-ghost use Rattle.path_entries.specs.outcome.Outcome.{Outcome};
+ghost use Rattle.path_walks.specs.store_outcome.Outcome.{Outcome};
 ghost use Rattle.fs_model.specs.Tree.{upward};
 ghost use Rattle.fs_model.specs.LookUp.{look};
 ghost use Rattle.fs_model.specs.Step.{listed, told, target_read, content_read};
-ghost use Rattle.path_entries.specs.forest.Showing.{BlobsShow, Performed};
+ghost use Rattle.path_walks.specs.Showing.{BlobsShow, Performed};
 ghost use Rattle.path_contents.specs.Replies.{IsRows, IsStatReply, IsTarget, IsContent};
 
 use crate::listing::list_in;
 use crate::places::{bytes_at, content_refusal, size_at};
 use block_id::{BlockId, Fail};
 use fs_model::{ByteText, FsError, Kind, MAX_READ, MAX_TARGET, Name, Reply};
-use path_entries::blob_api::Blobs;
-use path_entries::path_walks::{Spot, walk};
+use path_walks::blob_api::Blobs;
+use path_walks::{Spot, walk};
 use std::alloc::Global;
 
 /// Kind and name of each child.

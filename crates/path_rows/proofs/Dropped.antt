@@ -3,23 +3,23 @@ use Rattle.std.proofs.Common.{◌≡◌, ℕ, ◌≤◌, true, List, ◌∷◌, 
 use Rattle.std.specs.Prelude.{is_some, cond}
 use Rattle.std.specs.FinMap.{get, insert, remove}
 use Rattle.std.specs.declared.option.Option.TheVariants.{None}
-use Rattle.path_entries.specs.blob_api.declared.blobs.TheConstants.{MAX_BLOB}
-use Rattle.path_entries.specs.blob_api.BlobMap.{Id, BlobMap, BlobHoldings, Has}
+use Rattle.path_walks.specs.blob_api.declared.blobs.TheConstants.{MAX_BLOB}
+use Rattle.path_walks.specs.blob_api.BlobMap.{Id, BlobMap, BlobHoldings, Has}
 use Rattle.fs_model.specs.declared.attr.Kind.TheVariants.{Directory}
 use Rattle.fs_model.specs.Tree.{is_folder}
-use Rattle.path_entries.specs.fs_blobs.Headers.{blob}
-use Rattle.path_entries.proofs.fs_blobs_lemmas.Parts.{blob_fits}
+use Rattle.path_walks.specs.fs_blobs.Headers.{blob}
+use Rattle.path_walks.proofs.fs_blobs_lemmas.Parts.{blob_fits}
 use Rattle.fs_model.proofs.TreeLemmas.{same_name}
-use Rattle.path_entries.specs.dir_entries.Layout.{body_of, IsListing}
-use Rattle.path_entries.specs.dir_entries.Places.{without}
-use Rattle.path_entries.specs.dir_blob.Directories.{HasName, HasNameIn, HasEntries}
-use Rattle.path_entries.specs.forest.Nodes.{Lists, IsBlobOf, IsForest}
-use Rattle.path_entries.specs.forest.Shows.{above, target_for, entries_at, ShowsBy}
-use Rattle.path_entries.specs.forest.Midst.{with_entry}
-use Rattle.path_entries.proofs.forest_lemmas.Shown.{IsFolderRow, folder_row, entry_set, entry_apart, gone_shows}
-use Rattle.path_entries.specs.forest.Showing.{IsShownBy}
+use Rattle.path_walks.specs.dir_entries.Layout.{body_of, IsListing}
+use Rattle.path_walks.specs.dir_entries.Places.{without}
+use Rattle.path_walks.specs.dir_blob.Directories.{HasName, HasNameIn, HasEntries}
+use Rattle.path_walks.specs.Nodes.{Lists, IsBlobOf, IsForest}
+use Rattle.path_walks.specs.Shows.{above, target_for, entries_at, ShowsBy}
+use Rattle.path_walks.specs.Midst.{with_entry}
+use Rattle.path_walks.proofs.Shown.{IsFolderRow, folder_row, entry_set, entry_apart, gone_shows}
+use Rattle.path_walks.specs.Showing.{IsShownBy}
 use Rattle.path_rows.specs.Changes.{Dropping}
-use Rattle.path_entries.proofs.path_walks_lemmas.Nodes.{lists_at, directory_at, above_wide, content_fits, read_is}
+use Rattle.path_walks.proofs.Nodes.{lists_at, directory_at, above_wide, content_fits, read_is}
 use Rattle.path_rows.proofs.Edits.{lists_without}
 
 module _ {S : Type 0} {H : BlobHoldings S} {a : S} {dir : Id} {body n : List ℕ} {id : Id} (w : Dropping H a dir body n id) where

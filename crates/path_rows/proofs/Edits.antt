@@ -10,13 +10,13 @@ use Rattle.std.specs.List.{All}
 use Rattle.std.proofs.lemmas.List.Elements.{All-head, All-tail, All-cons}
 use Rattle.block_id.proofs.Conditions.{true_of}
 use Rattle.fs_model.specs.Names.{IsName}
-use Rattle.path_entries.specs.blob_api.BlobMap.{Id}
+use Rattle.path_walks.specs.blob_api.BlobMap.{Id}
 use Rattle.fs_model.specs.Tree.{Path, Tree, name_cmp, entry_size, entries_size}
 use Rattle.fs_model.proofs.TreeLemmas.{same_name, name_total, name_exact, name_same, name_apart, name_split, remove_here, remove_apart}
-use Rattle.path_entries.specs.dir_entries.Layout.{EntryTarget, Listing, body_of, IsEntry, IsListing}
-use Rattle.path_entries.specs.dir_entries.Places.{without}
-use Rattle.path_entries.specs.forest.Nodes.{Look, Lists}
-use Rattle.path_entries.specs.forest.Shows.{entries_at, target_for}
+use Rattle.path_walks.specs.dir_entries.Layout.{EntryTarget, Listing, body_of, IsEntry, IsListing}
+use Rattle.path_walks.specs.dir_entries.Places.{without}
+use Rattle.path_walks.specs.Nodes.{Look, Lists}
+use Rattle.path_walks.specs.Shows.{entries_at, target_for}
 
 pub entries_without : (listing : Listing) (n k : List ℕ) → find name_cmp k (without n listing) ≡ cond (same_name k n) None (find name_cmp k listing)
 entries_without listing n k =

@@ -3,7 +3,7 @@ use Rattle.std.proofs.Common.{◌≡◌, ℕ, false, List, ◌∷◌, length, re
 use Rattle.std.specs.FinMap.{get, remove, len}
 use Rattle.std.specs.declared.option.Option.TheVariants.{None}
 use Rattle.std.proofs.lemmas.Bool.{ltb-false}
-use Rattle.path_entries.specs.blob_api.BlobMap.{BlobHoldings}
+use Rattle.path_walks.specs.blob_api.BlobMap.{BlobHoldings}
 use Rattle.fs_model.specs.declared.attr.Kind.TheVariants.{Directory}
 use Rattle.fs_model.specs.declared.reply.Reply.TheVariants.{Done}
 use Rattle.fs_model.specs.Instant.{Instant}
@@ -12,14 +12,14 @@ use Rattle.fs_model.specs.Step.{done, touched, has_child}
 use Rattle.fs_model.proofs.TreeLemmas.{remove_apart}
 use Rattle.fs_model.proofs.SizeLemmas.{no_children}
 use Rattle.fs_model.proofs.PutRows.{remove_bare, below_file}
-use Rattle.path_entries.specs.path_walks.declared.spots.Occupancy.{Occupancy}
-use Rattle.path_entries.specs.forest.Showing.{IsShownBy, Performed}
-use Rattle.path_entries.specs.path_walks.Sights.{Finding, IsAt}
-use Rattle.path_entries.proofs.path_walks_lemmas.Told.{shown_done}
-use Rattle.path_entries.specs.Touching.{Touching}
-use Rattle.path_entries.proofs.Places.{still_at}
+use Rattle.path_walks.specs.declared.spots.Occupancy.{Occupancy}
+use Rattle.path_walks.specs.Showing.{IsShownBy, Performed}
+use Rattle.path_walks.specs.Sights.{Finding, IsAt}
+use Rattle.path_walks.proofs.Told.{shown_done}
+use Rattle.path_walks.specs.Touching.{Touching}
+use Rattle.path_walks.proofs.Places.{still_at}
 use Rattle.path_rows.specs.Changes.{Dropping, DirectoryAt}
-use Rattle.path_entries.proofs.path_walks_lemmas.Found.{q, is_folder_by}
+use Rattle.path_walks.proofs.Found.{q, is_folder_by}
 
 -- without children nothing stands below
 pub childless : (t : Tree) (p : Path) → has_child t p ≡ false → (m : List ℕ) → get t (m ∷ p) ≡ None

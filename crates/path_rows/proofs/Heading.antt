@@ -5,7 +5,7 @@ use Rattle.std.specs.FinMap.{get}
 use Rattle.std.specs.declared.option.Option.TheVariants.{None, Some}
 use Rattle.std.proofs.lemmas.Bool.{lt-ltb, le-ltb}
 use Rattle.std.proofs.lemmas.Option.{same_Some}
-use Rattle.path_entries.specs.blob_api.BlobMap.{Id, BlobHoldings}
+use Rattle.path_walks.specs.blob_api.BlobMap.{Id, BlobHoldings}
 use Rattle.fs_model.specs.declared.limits.TheConstants.{MAX_ENTRIES}
 use Rattle.fs_model.specs.declared.attr.Attr.{Attr}
 use Rattle.fs_model.specs.declared.error.FsError.TheVariants.{TooLarge}
@@ -18,22 +18,22 @@ use Rattle.fs_model.proofs.TreeLemmas.{same_name, name_same, name_apart, path_sp
 use Rattle.fs_model.proofs.MovedTree.{strip_none, moved_well_formed}
 use Rattle.fs_model.proofs.MovedRows.{IsCarried, moved_rows}
 use Rattle.fs_model.proofs.MovedSize.{size_within_free, size_across_free}
-use Rattle.path_entries.specs.forest.Shows.{ShowsBy}
-use Rattle.path_entries.specs.path_walks.declared.spots.Folder.{Folder}
-use Rattle.path_entries.specs.path_walks.declared.spots.Occupancy.{Occupancy}
-use Rattle.path_entries.specs.path_walks.declared.spots.Place.{Place}
-use Rattle.path_entries.specs.path_walks.Sights.{IsAt}
-use Rattle.path_entries.specs.Touching.{TouchingBoth}
-use Rattle.path_entries.proofs.Places.{still_at}
-use Rattle.path_entries.proofs.forest_lemmas.Shown.{folder_row}
-use Rattle.path_entries.specs.forest.Showing.{IsShownBy, PerformedBy}
-use Rattle.path_entries.specs.forest.Midst.{moved_ids}
+use Rattle.path_walks.specs.Shows.{ShowsBy}
+use Rattle.path_walks.specs.declared.spots.Folder.{Folder}
+use Rattle.path_walks.specs.declared.spots.Occupancy.{Occupancy}
+use Rattle.path_walks.specs.declared.spots.Place.{Place}
+use Rattle.path_walks.specs.Sights.{IsAt}
+use Rattle.path_walks.specs.Touching.{TouchingBoth}
+use Rattle.path_walks.proofs.Places.{still_at}
+use Rattle.path_walks.proofs.Shown.{folder_row}
+use Rattle.path_walks.specs.Showing.{IsShownBy, PerformedBy}
+use Rattle.path_walks.specs.Midst.{moved_ids}
 use Rattle.fs_model.specs.Move.{CanMove, strip, moved_by}
 use Rattle.path_rows.specs.Moves.{Moving, Heading}
-use Rattle.path_entries.proofs.path_walks_lemmas.Steps.{directory_seen, folder_is}
-use Rattle.path_entries.proofs.path_walks_lemmas.Nodes.{size_at, read_is}
-use Rattle.path_entries.specs.dir_blob.Directories.{IsDirectory}
-use Rattle.path_entries.specs.dir_entries.Layout.{EntryTarget, body_of}
+use Rattle.path_walks.proofs.Steps.{directory_seen, folder_is}
+use Rattle.path_walks.proofs.Nodes.{size_at, read_is}
+use Rattle.path_walks.specs.dir_blob.Directories.{IsDirectory}
+use Rattle.path_walks.specs.dir_entries.Layout.{EntryTarget, body_of}
 
 module _ {S : Type 0} {H : BlobHoldings S} {a : S} {now : Instant} {from : Occupancy} {to : Folder} {k body : List ℕ} (w : Heading H a now from to k body) where
   abbrev n : List ℕ

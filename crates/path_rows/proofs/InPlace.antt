@@ -4,26 +4,26 @@ use Rattle.std.specs.Prelude.{is_some, cond}
 use Rattle.std.specs.FinMap.{get, find, insert, put}
 use Rattle.std.specs.declared.option.Option.{Option}
 use Rattle.std.specs.declared.option.Option.TheVariants.{None, Some}
-use Rattle.path_entries.specs.blob_api.BlobMap.{Id, BlobMap, BlobHoldings}
+use Rattle.path_walks.specs.blob_api.BlobMap.{Id, BlobMap, BlobHoldings}
 use Rattle.fs_model.specs.declared.limits.TheConstants.{MAX_ENTRIES}
 use Rattle.fs_model.specs.declared.attr.Kind.TheVariants.{Directory}
 use Rattle.fs_model.specs.Tree.{name_cmp, same_path}
 use Rattle.fs_model.proofs.TreeLemmas.{same_name, name_same, name_split, name_apart}
 use Rattle.fs_model.proofs.MovedTree.{parent_off_p}
-use Rattle.path_entries.specs.fs_blobs.Headers.{blob}
-use Rattle.path_entries.specs.dir_entries.Layout.{EntryTarget, Listing, body_of, IsListing}
-use Rattle.path_entries.specs.dir_entries.Places.{without}
-use Rattle.path_entries.specs.dir_entries.Renaming.{renamed}
-use Rattle.path_entries.specs.dir_blob.Directories.{HasBoth, HasBothIn, HasEntries}
-use Rattle.path_entries.proofs.dir_blob_lemmas.Needs.{insert_again}
-use Rattle.path_entries.specs.forest.Nodes.{Lists}
-use Rattle.path_entries.specs.forest.Shows.{above, target_for, entries_at}
-use Rattle.path_entries.proofs.forest_lemmas.Shown.{same_last}
-use Rattle.path_entries.proofs.forest_lemmas.Moved.{from_without, onto_with, ids_moved, look_off, qd_off_q}
-use Rattle.path_entries.specs.path_walks.declared.spots.Occupancy.{Occupancy}
+use Rattle.path_walks.specs.fs_blobs.Headers.{blob}
+use Rattle.path_walks.specs.dir_entries.Layout.{EntryTarget, Listing, body_of, IsListing}
+use Rattle.path_walks.specs.dir_entries.Places.{without}
+use Rattle.path_walks.specs.dir_entries.Renaming.{renamed}
+use Rattle.path_walks.specs.dir_blob.Directories.{HasBoth, HasBothIn, HasEntries}
+use Rattle.path_walks.proofs.dir_blob_lemmas.Needs.{insert_again}
+use Rattle.path_walks.specs.Nodes.{Lists}
+use Rattle.path_walks.specs.Shows.{above, target_for, entries_at}
+use Rattle.path_walks.proofs.Shown.{same_last}
+use Rattle.path_walks.proofs.Moved.{from_without, onto_with, ids_moved, look_off, qd_off_q}
+use Rattle.path_walks.specs.declared.spots.Occupancy.{Occupancy}
 use Rattle.path_rows.specs.Moves.{Moving}
-use Rattle.path_entries.proofs.path_walks_lemmas.Nodes.{lists_at, entries_with, read_is}
-use Rattle.path_entries.proofs.path_walks_lemmas.Sizes.{sizes_shown, body_size}
+use Rattle.path_walks.proofs.Nodes.{lists_at, entries_with, read_is}
+use Rattle.path_walks.proofs.Sizes.{sizes_shown, body_size}
 use Rattle.path_rows.proofs.Edits.{entries_without, lists_without, without_is}
 use Rattle.path_rows.proofs.Relocated.{IsOnTheWay, home, looks1, looks2, next, target, target_is, row_from, row_to, has_name}
 

@@ -5,16 +5,16 @@ use Rattle.std.specs.FinMap.{find}
 use Rattle.std.specs.declared.alloc.Global.{Global}
 use Rattle.std.specs.declared.option.Option.{Option}
 use Rattle.block_id.specs.declared.id.BlockId.{BlockId}
-use Rattle.path_entries.specs.blob_api.BlobMap.{BlobHoldings}
+use Rattle.path_walks.specs.blob_api.BlobMap.{BlobHoldings}
 use Rattle.fs_model.specs.declared.attr.Attr.{Attr}
 use Rattle.fs_model.specs.declared.attr.Kind.TheVariants.{Directory}
 use Rattle.fs_model.specs.Tree.{Path, name_cmp, upward}
-use Rattle.path_entries.specs.dir_entries.Places.{target_of}
-use Rattle.path_entries.specs.forest.Shows.{entries_at}
-use Rattle.path_entries.specs.path_walks.declared.spots.Occupancy.{Occupancy}
-use Rattle.path_entries.specs.path_walks.Sights.{Finding, SightIs, sight_of}
-use Rattle.path_entries.proofs.path_walks_lemmas.Nodes.{lists_at, same_lists, read_is}
-use Rattle.path_entries.proofs.path_walks_lemmas.Steps.{folder_is, seen_under}
+use Rattle.path_walks.specs.dir_entries.Places.{target_of}
+use Rattle.path_walks.specs.Shows.{entries_at}
+use Rattle.path_walks.specs.declared.spots.Occupancy.{Occupancy}
+use Rattle.path_walks.specs.Sights.{Finding, SightIs, sight_of}
+use Rattle.path_walks.proofs.Nodes.{lists_at, same_lists, read_is}
+use Rattle.path_walks.proofs.Steps.{folder_is, seen_under}
 
 module _ {S : Type 0} {H : BlobHoldings S} {a : S} {at : Occupancy} (w : Finding H a at) where
   abbrev kind : w.is.above.row.attr.kind ≡ Directory

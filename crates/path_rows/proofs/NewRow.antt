@@ -6,7 +6,7 @@ use Rattle.std.specs.declared.option.Option.TheVariants.{None, Some}
 use Rattle.std.proofs.lemmas.Bool.{lt-ltb, le-ltb}
 use Rattle.std.proofs.lemmas.List.Elements.{All-nil}
 use Rattle.std.proofs.lemmas.Option.{none-some}
-use Rattle.path_entries.specs.blob_api.BlobMap.{Id, BlobMap, BlobHoldings, IsNew}
+use Rattle.path_walks.specs.blob_api.BlobMap.{Id, BlobMap, BlobHoldings, IsNew}
 use Rattle.fs_model.specs.declared.limits.TheConstants.{MAX_ENTRIES}
 use Rattle.fs_model.specs.declared.attr.Kind.{Kind}
 use Rattle.fs_model.specs.declared.attr.Kind.TheVariants.{Directory, File, Link}
@@ -18,24 +18,24 @@ use Rattle.fs_model.specs.LookUp.{Free, look}
 use Rattle.fs_model.specs.Step.{Stepped, refused, done, touched, made}
 use Rattle.fs_model.proofs.LookUpLemmas.{look-walk}
 use Rattle.fs_model.proofs.PutRows.{insert_free}
-use Rattle.path_entries.specs.fs_blobs.Headers.{blob}
-use Rattle.path_entries.specs.dir_entries.Layout.{EntryTarget, body_of, IsEntry}
-use Rattle.path_entries.specs.dir_blob.Directories.{IsDirectory, HasRoom, HasRoomIn, HasEntries}
-use Rattle.path_entries.specs.forest.Nodes.{IsBodyOf}
-use Rattle.path_entries.specs.forest.Shows.{above, target_for, entries_at, ShowsBy}
-use Rattle.path_entries.proofs.forest_lemmas.Forests.{map_apart}
-use Rattle.path_entries.specs.forest.Midst.{ids_with}
-use Rattle.path_entries.proofs.forest_lemmas.Shown.{made_shows}
-use Rattle.path_entries.specs.forest.Showing.{Performed, IsShownBy}
-use Rattle.path_entries.specs.path_walks.Sights.{IsAt, IsOpen}
+use Rattle.path_walks.specs.fs_blobs.Headers.{blob}
+use Rattle.path_walks.specs.dir_entries.Layout.{EntryTarget, body_of, IsEntry}
+use Rattle.path_walks.specs.dir_blob.Directories.{IsDirectory, HasRoom, HasRoomIn, HasEntries}
+use Rattle.path_walks.specs.Nodes.{IsBodyOf}
+use Rattle.path_walks.specs.Shows.{above, target_for, entries_at, ShowsBy}
+use Rattle.path_walks.proofs.Forests.{map_apart}
+use Rattle.path_walks.specs.Midst.{ids_with}
+use Rattle.path_walks.proofs.Shown.{made_shows}
+use Rattle.path_walks.specs.Showing.{Performed, IsShownBy}
+use Rattle.path_walks.specs.Sights.{IsAt, IsOpen}
 use Rattle.path_rows.specs.Changes.{Making, Adding}
-use Rattle.path_entries.proofs.path_walks_lemmas.Nodes.{lists_at, directory_at, size_at, lists_with, read_is}
+use Rattle.path_walks.proofs.Nodes.{lists_at, directory_at, size_at, lists_with, read_is}
 use Rattle.path_rows.proofs.Edits.{put_named}
-use Rattle.path_entries.proofs.path_walks_lemmas.Steps.{folder_is, walk_free}
-use Rattle.path_entries.specs.path_walks.declared.spots.Folder.{Folder}
-use Rattle.path_entries.proofs.path_walks_lemmas.Told.{told_as, shown_done}
-use Rattle.path_entries.specs.Touching.{Touching}
-use Rattle.path_entries.proofs.Places.{still_at}
+use Rattle.path_walks.proofs.Steps.{folder_is, walk_free}
+use Rattle.path_walks.specs.declared.spots.Folder.{Folder}
+use Rattle.path_walks.proofs.Told.{told_as, shown_done}
+use Rattle.path_walks.specs.Touching.{Touching}
+use Rattle.path_walks.proofs.Places.{still_at}
 use Rattle.fs_model.proofs.TreeLemmas.{apart, insert_apart}
 
 new_content : (kind : Kind) (bytes : List ℕ) → FitsKind kind bytes → IsBodyOf kind bytes (λ k. None) bytes

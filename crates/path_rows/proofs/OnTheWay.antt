@@ -1,7 +1,7 @@
 -- A row on its way to another path.
 use Rattle.std.proofs.Common.{◌≡◌, ℕ, true, false, List, [], ◌∷◌, length, refl, sym, ◌∙◌, ap, subst, arith}
 use Rattle.std.specs.Prelude.{◌==◌}
-use Rattle.path_entries.specs.blob_api.BlobMap.{Id, BlobHoldings}
+use Rattle.path_walks.specs.blob_api.BlobMap.{Id, BlobHoldings}
 use Rattle.fs_model.specs.declared.attr.Attr.{Attr}
 use Rattle.fs_model.specs.Instant.{Instant}
 use Rattle.fs_model.specs.Tree.{Path, upward, is_directory, is_root, same_path}
@@ -10,17 +10,17 @@ use Rattle.fs_model.specs.LookUp.{LookedUp, Found, look}
 use Rattle.fs_model.specs.Step.{Stepped, moved_to, moved_onto, moved_tree, moved_unless_large}
 use Rattle.fs_model.proofs.LookUpLemmas.{look-found}
 use Rattle.fs_model.proofs.WellFormedStep.{can_move_free, can_move_found}
-use Rattle.path_entries.specs.forest.Shows.{ShowsBy}
-use Rattle.path_entries.specs.forest.Showing.{BlobsShow, PerformedBy, Performed}
-use Rattle.path_entries.proofs.tree_rules_lemmas.PathLemmas.{not_root}
-use Rattle.path_entries.specs.path_walks.declared.spots.Folder.{Folder}
-use Rattle.path_entries.specs.path_walks.declared.spots.Occupancy.{Occupancy}
-use Rattle.path_entries.specs.path_walks.declared.spots.Place.{Place}
-use Rattle.path_entries.specs.path_walks.Reaching.{IsRow}
-use Rattle.path_entries.specs.path_walks.Sights.{Finding, IsAt, IsFound, IsFoundIn, IsOpen, Standing}
+use Rattle.path_walks.specs.Shows.{ShowsBy}
+use Rattle.path_walks.specs.Showing.{BlobsShow, PerformedBy, Performed}
+use Rattle.fs_model.proofs.PathLemmas.{not_root}
+use Rattle.path_walks.specs.declared.spots.Folder.{Folder}
+use Rattle.path_walks.specs.declared.spots.Occupancy.{Occupancy}
+use Rattle.path_walks.specs.declared.spots.Place.{Place}
+use Rattle.path_walks.specs.Reaching.{IsRow}
+use Rattle.path_walks.specs.Sights.{Finding, IsAt, IsFound, IsFoundIn, IsOpen, Standing}
 use Rattle.path_rows.specs.Moves.{Heading, Replacing}
 use Rattle.path_rows.specs.Onward.{Leaving, Onward, Lets}
-use Rattle.path_entries.proofs.path_walks_lemmas.Seeing.{look_found, look_free, on_path, row_finding}
+use Rattle.path_walks.proofs.Seeing.{look_found, look_free, on_path, row_finding}
 use Rattle.path_rows.proofs.Steps.{onto_by, onto_unless}
 use Rattle.fs_model.specs.declared.reply.Reply.{Reply}
 

@@ -3,8 +3,8 @@ use Rattle.std.proofs.Common.{◌≡◌, ℕ, ◌≤◌, ◌+◌, List, [], ◌�
 use Rattle.std.specs.Prelude.{is_some, cond}
 use Rattle.std.specs.FinMap.{get, find, insert, put}
 use Rattle.std.specs.declared.option.Option.TheVariants.{None, Some}
-use Rattle.path_entries.specs.blob_api.declared.blobs.TheConstants.{MAX_BLOB}
-use Rattle.path_entries.specs.blob_api.BlobMap.{Id, BlobMap, BlobHoldings}
+use Rattle.path_walks.specs.blob_api.declared.blobs.TheConstants.{MAX_BLOB}
+use Rattle.path_walks.specs.blob_api.BlobMap.{Id, BlobMap, BlobHoldings}
 use Rattle.fs_model.specs.declared.limits.TheConstants.{MAX_ENTRIES}
 use Rattle.fs_model.specs.declared.attr.Kind.TheVariants.{Directory}
 use Rattle.fs_model.specs.Tree.{Path, Tree, name_cmp, entry_size}
@@ -12,22 +12,22 @@ use Rattle.fs_model.specs.Step.{with_ctime, moved_tree}
 use Rattle.fs_model.proofs.TreeLemmas.{same_name}
 use Rattle.fs_model.proofs.MovedTree.{parent_off_p}
 use Rattle.fs_model.proofs.SizeLemmas.{inserted_again}
-use Rattle.path_entries.specs.fs_blobs.declared.header.TheConstants.{HEADER_LEN}
-use Rattle.path_entries.specs.fs_blobs.Headers.{blob}
-use Rattle.path_entries.specs.fs_blobs.Blobs.{IsBlob}
-use Rattle.path_entries.specs.dir_entries.Layout.{EntryTarget, body_of}
-use Rattle.path_entries.specs.dir_entries.Places.{without}
-use Rattle.path_entries.specs.dir_blob.Directories.{HasName, HasNameIn, HasRoom, HasRoomIn, HasEntries}
-use Rattle.path_entries.specs.forest.Nodes.{Look, Lists, IsBlobOf, IsForest}
-use Rattle.path_entries.specs.forest.Shows.{above, target_for, entries_at}
-use Rattle.path_entries.proofs.forest_lemmas.Shown.{IsFolderRow, folder_row, entry_apart, same_last}
-use Rattle.path_entries.proofs.forest_lemmas.Moved.{looks_without, looks_with, from_without, onto_with, ids_moved, moved_shows, look_off, qd_off_q, below_p, below_q}
-use Rattle.path_entries.specs.forest.Showing.{IsShownBy}
-use Rattle.path_entries.specs.forest.Midst.{moved_ids}
-use Rattle.path_entries.specs.path_walks.declared.spots.Occupancy.{Occupancy}
+use Rattle.path_walks.specs.fs_blobs.declared.header.TheConstants.{HEADER_LEN}
+use Rattle.path_walks.specs.fs_blobs.Headers.{blob}
+use Rattle.path_walks.specs.fs_blobs.Blobs.{IsBlob}
+use Rattle.path_walks.specs.dir_entries.Layout.{EntryTarget, body_of}
+use Rattle.path_walks.specs.dir_entries.Places.{without}
+use Rattle.path_walks.specs.dir_blob.Directories.{HasName, HasNameIn, HasRoom, HasRoomIn, HasEntries}
+use Rattle.path_walks.specs.Nodes.{Look, Lists, IsBlobOf, IsForest}
+use Rattle.path_walks.specs.Shows.{above, target_for, entries_at}
+use Rattle.path_walks.proofs.Shown.{IsFolderRow, folder_row, entry_apart, same_last}
+use Rattle.path_walks.proofs.Moved.{looks_without, looks_with, from_without, onto_with, ids_moved, moved_shows, look_off, qd_off_q, below_p, below_q}
+use Rattle.path_walks.specs.Showing.{IsShownBy}
+use Rattle.path_walks.specs.Midst.{moved_ids}
+use Rattle.path_walks.specs.declared.spots.Occupancy.{Occupancy}
 use Rattle.path_rows.specs.Moves.{Moving}
-use Rattle.path_entries.proofs.path_walks_lemmas.Nodes.{lists_at, lists_of, same_lists, directory_at, above_wide, lists_with, entries_with, content_fits, read_is}
-use Rattle.path_entries.proofs.path_walks_lemmas.Sizes.{sizes_shown, body_size}
+use Rattle.path_walks.proofs.Nodes.{lists_at, lists_of, same_lists, directory_at, above_wide, lists_with, entries_with, content_fits, read_is}
+use Rattle.path_walks.proofs.Sizes.{sizes_shown, body_size}
 use Rattle.path_rows.proofs.Edits.{lists_without, sorted_put, size_put, tails}
 
 -- the blobs are those of the tree, but for entries

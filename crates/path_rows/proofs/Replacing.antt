@@ -4,7 +4,7 @@ use Rattle.std.specs.FinMap.{find, get, remove}
 use Rattle.std.specs.declared.option.Option.TheVariants.{None, Some}
 use Rattle.std.proofs.lemmas.Bool.{le-ltb}
 use Rattle.std.proofs.lemmas.Option.{none-some}
-use Rattle.path_entries.specs.blob_api.BlobMap.{Id, BlobHoldings}
+use Rattle.path_walks.specs.blob_api.BlobMap.{Id, BlobHoldings}
 use Rattle.fs_model.specs.declared.limits.TheConstants.{MAX_ENTRIES}
 use Rattle.fs_model.specs.declared.error.FsError.TheVariants.{TooLarge}
 use Rattle.fs_model.specs.declared.reply.Reply.{Reply}
@@ -14,16 +14,16 @@ use Rattle.fs_model.specs.Step.{refused, done, touched, moved_tree, moved_unless
 use Rattle.fs_model.proofs.TreeLemmas.{same_name, path_split, remove_here, remove_apart}
 use Rattle.fs_model.proofs.MovedSize.{size_within_found, size_across_found}
 use Rattle.fs_model.proofs.PutRows.{remove_bare}
-use Rattle.path_entries.proofs.forest_lemmas.Moved.{moved_after, can_move_after}
-use Rattle.path_entries.specs.path_walks.declared.spots.Occupancy.{Occupancy}
-use Rattle.path_entries.specs.path_walks.declared.spots.Place.{Place}
-use Rattle.path_entries.proofs.Places.{still_at}
-use Rattle.path_entries.specs.forest.Showing.{IsShownBy, PerformedBy}
-use Rattle.path_entries.specs.path_walks.Sights.{IsAt}
-use Rattle.path_entries.specs.dir_entries.Layout.{EntryTarget, body_of}
-use Rattle.path_entries.specs.dir_entries.Places.{without}
-use Rattle.path_entries.specs.forest.Nodes.{Lists}
-use Rattle.path_entries.specs.forest.Shows.{entries_at, target_for}
+use Rattle.path_walks.proofs.Moved.{moved_after, can_move_after}
+use Rattle.path_walks.specs.declared.spots.Occupancy.{Occupancy}
+use Rattle.path_walks.specs.declared.spots.Place.{Place}
+use Rattle.path_walks.proofs.Places.{still_at}
+use Rattle.path_walks.specs.Showing.{IsShownBy, PerformedBy}
+use Rattle.path_walks.specs.Sights.{IsAt}
+use Rattle.path_walks.specs.dir_entries.Layout.{EntryTarget, body_of}
+use Rattle.path_walks.specs.dir_entries.Places.{without}
+use Rattle.path_walks.specs.Nodes.{Lists}
+use Rattle.path_walks.specs.Shows.{entries_at, target_for}
 use Rattle.path_rows.specs.Changes.{Dropping}
 use Rattle.path_rows.specs.Moves.{Heading, Replacing}
 use Rattle.path_rows.proofs.Edits.{entries_without, without_is, look_gone, tails}

@@ -2,15 +2,15 @@
 use Rattle.std.specs.Prelude.{◌≡◌, ◌≤◌, ◌+◌, ℕ, List, ◌∷◌}
 use Rattle.std.specs.FinMap.{get, remove}
 use Rattle.std.specs.declared.option.Option.TheVariants.{Some}
-use Rattle.path_entries.specs.blob_api.BlobMap.{Id, BlobMap, BlobHoldings}
+use Rattle.path_walks.specs.blob_api.BlobMap.{Id, BlobMap, BlobHoldings}
 use Rattle.fs_model.specs.declared.attr.Kind.TheVariants.{Directory}
 use Rattle.fs_model.specs.declared.limits.TheConstants.{MAX_ENTRIES}
 use Rattle.fs_model.specs.Tree.{Path, Row, Tree, upward, IsWellFormed, IsWithinLimits, entry_size, directory_size}
-use Rattle.path_entries.specs.forest.Nodes.{Lists}
-use Rattle.path_entries.specs.forest.Shows.{ShowsBy, entries_at}
-use Rattle.path_entries.specs.path_walks.declared.spots.Folder.{Folder}
-use Rattle.path_entries.specs.path_walks.declared.spots.Place.{Place}
-use Rattle.path_entries.specs.path_walks.Sights.{IsVacant, Standing}
+use Rattle.path_walks.specs.Nodes.{Lists}
+use Rattle.path_walks.specs.Shows.{ShowsBy, entries_at}
+use Rattle.path_walks.specs.declared.spots.Folder.{Folder}
+use Rattle.path_walks.specs.declared.spots.Place.{Place}
+use Rattle.path_walks.specs.Sights.{IsVacant, Standing}
 
 -- a directory in which a name is free, where a row is to be made, and its body
 pub record Making {S : Type 0} (H : BlobHoldings S) (a : S) (dir : Folder) (n body : List ℕ) (row : Row) : Type 0 where

@@ -2,7 +2,7 @@
 use Rattle.std.specs.Prelude.{◌≡◌, ℕ, List, ◌∷◌}
 use Rattle.std.specs.FinMap.{get}
 use Rattle.std.specs.declared.option.Option.TheVariants.{None}
-use Rattle.path_entries.specs.blob_api.BlobMap.{Id, BlobMap, BlobHoldings}
+use Rattle.path_walks.specs.blob_api.BlobMap.{Id, BlobMap, BlobHoldings}
 use Rattle.fs_model.specs.declared.attr.Kind.TheVariants.{Directory}
 use Rattle.fs_model.specs.declared.reply.Reply.{Reply}
 use Rattle.fs_model.specs.declared.reply.Reply.TheVariants.{Done, Rows, Info, Target as LinkTarget, Content, Error}
@@ -10,12 +10,12 @@ use Rattle.fs_model.specs.Instant.{Instant}
 use Rattle.fs_model.specs.Tree.{Path, Row, Tree, upward, IsWellFormed}
 use Rattle.fs_model.specs.Move.{CanMove}
 use Rattle.fs_model.specs.Step.{with_ctime, moved_tree}
-use Rattle.path_entries.specs.dir_entries.Layout.{EntryTarget}
-use Rattle.path_entries.specs.forest.Nodes.{Lists}
-use Rattle.path_entries.specs.forest.Shows.{ShowsBy, entries_at}
-use Rattle.path_entries.specs.path_walks.declared.spots.Folder.{Folder}
-use Rattle.path_entries.specs.path_walks.declared.spots.Occupancy.{Occupancy}
-use Rattle.path_entries.specs.path_walks.Sights.{IsAt}
+use Rattle.path_walks.specs.dir_entries.Layout.{EntryTarget}
+use Rattle.path_walks.specs.Nodes.{Lists}
+use Rattle.path_walks.specs.Shows.{ShowsBy, entries_at}
+use Rattle.path_walks.specs.declared.spots.Folder.{Folder}
+use Rattle.path_walks.specs.declared.spots.Occupancy.{Occupancy}
+use Rattle.path_walks.specs.Sights.{IsAt}
 
 -- a row that may move to a free path: from the directory `above`, whose body was read if it is another one, to the
 -- directory `below`, which has this body, under the entry e

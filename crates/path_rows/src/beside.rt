@@ -1,16 +1,15 @@
 // A look from a row to another path.
 ghost use Rattle.std.specs.Prelude.{◌≡◌, ◌≤◌, IfOk};
-ghost use Rattle.path_entries.specs.outcome.Outcome.{Outcome};
+ghost use Rattle.path_walks.specs.store_outcome.Outcome.{Outcome};
 ghost use Rattle.fs_model.specs.Tree.{upward};
-ghost use Rattle.path_entries.specs.path_walks.Sights.{SightIs, HaveModes, sight_of};
+ghost use Rattle.path_walks.specs.Sights.{SightIs, HaveModes, sight_of};
 ghost use Rattle.path_rows.specs.Onward.{Leaving};
 
 use block_id::{BlockId, Fail, Why};
-use fs_model::{Attr, MAX_MODE, Name};
-use path_entries::blob_api::Blobs;
-use path_entries::dir_entries::locate;
-use path_entries::path_walks::{Occupancy, Place, Sight, look_at};
-use path_entries::tree_rules::same_names;
+use fs_model::{Attr, MAX_MODE, Name, same_names};
+use path_walks::blob_api::Blobs;
+use path_walks::dir_entries::locate;
+use path_walks::{Occupancy, Place, Sight, look_at};
 use std::alloc::Global;
 
 /// What stands under a name below a path. Where that is the row's own directory its body isn't read again.

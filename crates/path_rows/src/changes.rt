@@ -1,23 +1,22 @@
 // Changes of which rows the blobs show.
 ghost use Rattle.std.specs.Prelude.{◌≤◌, ◌∷◌};
 ghost use Rattle.std.specs.FinMap.{remove as without_key};
-ghost use Rattle.path_entries.specs.outcome.Outcome.{Outcome};
+ghost use Rattle.path_walks.specs.store_outcome.Outcome.{Outcome};
 ghost use Rattle.fs_model.specs.Step.{moved_tree};
-ghost use Rattle.path_entries.specs.dir_entries.Layout.{entry_of};
-ghost use Rattle.path_entries.specs.forest.Midst.{moved_ids};
-ghost use Rattle.path_entries.specs.forest.Showing.{IsShownBy};
+ghost use Rattle.path_walks.specs.dir_entries.Layout.{entry_of};
+ghost use Rattle.path_walks.specs.Midst.{moved_ids};
+ghost use Rattle.path_walks.specs.Showing.{IsShownBy};
 ghost use Rattle.path_rows.specs.Changes.{Dropping};
 ghost use Rattle.path_rows.specs.Moves.{Moving};
 
 use crate::made::Vacancy;
 use block_id::Fail;
 use fs_model::MAX_MODE;
-use path_entries::blob_api::Blobs;
-use path_entries::dir_blob::{insert_in, remove_in, rename};
-use path_entries::dir_entries::Entry;
-use path_entries::fs_blobs::set_parent;
-use path_entries::is_same;
-use path_entries::path_walks::Occupancy;
+use path_walks::blob_api::Blobs;
+use path_walks::dir_blob::{insert_in, remove_in, rename};
+use path_walks::dir_entries::Entry;
+use path_walks::fs_blobs::set_parent;
+use path_walks::{Occupancy, is_same};
 use std::alloc::Global;
 
 /// A row with nothing below it goes: its entry, and its blob.

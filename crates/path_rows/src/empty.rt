@@ -4,12 +4,12 @@ ghost use Rattle.std.specs.FinMap.{insert, empty};
 ghost use Rattle.block_id.specs.Fresh.{zero_id};
 ghost use Rattle.fs_model.specs.declared.attr.Kind.TheVariants.{Directory};
 ghost use Rattle.fs_model.specs.Tree.{empty_tree};
-ghost use Rattle.path_entries.specs.fs_blobs.Headers.{blob};
-ghost use Rattle.path_entries.specs.forest.Shows.{ShowsBy};
+ghost use Rattle.path_walks.specs.fs_blobs.Headers.{blob};
+ghost use Rattle.path_walks.specs.Shows.{ShowsBy};
 
 use block_id::{BlockId, Memory};
 use fs_model::Kind;
-use path_entries::fs_blobs::{Header, header_bytes};
+use path_walks::fs_blobs::{Header, header_bytes};
 use std::alloc::Global;
 
 /// The bytes of a root's blob that shows the empty tree, where it is the only blob.

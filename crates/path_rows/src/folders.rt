@@ -1,15 +1,15 @@
 // Directories, and whether anything stands below one.
 ghost use Rattle.std.specs.Prelude.{◌≡◌};
-ghost use Rattle.path_entries.specs.outcome.Outcome.{Outcome};
+ghost use Rattle.path_walks.specs.store_outcome.Outcome.{Outcome};
 ghost use Rattle.fs_model.specs.Step.{has_child as model_has_child};
 ghost use Rattle.fs_model.specs.Tree.{is_directory as model_is_directory};
 ghost use Rattle.path_rows.specs.Changes.{DirectoryAt};
 
 use block_id::Fail;
 use fs_model::Kind;
-use path_entries::blob_api::Blobs;
-use path_entries::fs_blobs::body_len;
-use path_entries::path_walks::Place;
+use path_walks::Place;
+use path_walks::blob_api::Blobs;
+use path_walks::fs_blobs::body_len;
 use std::alloc::Global;
 
 /// Whether something stands below a directory.

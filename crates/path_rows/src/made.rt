@@ -1,22 +1,21 @@
 // A new row in a directory, with its blob.
 ghost use Rattle.std.specs.Prelude.{◌≤◌, ◌∷◌, IfOk, length};
 ghost use Rattle.std.specs.FinMap.{insert as with_row};
-ghost use Rattle.path_entries.specs.outcome.Outcome.{Outcome};
+ghost use Rattle.path_walks.specs.store_outcome.Outcome.{Outcome};
 ghost use Rattle.fs_model.specs.LookUp.{look};
 ghost use Rattle.fs_model.specs.Step.{made};
-ghost use Rattle.path_entries.specs.forest.Midst.{ids_with};
-ghost use Rattle.path_entries.specs.forest.Showing.{IsShownBy, Performed};
+ghost use Rattle.path_walks.specs.Midst.{ids_with};
+ghost use Rattle.path_walks.specs.Showing.{IsShownBy, Performed};
 ghost use Rattle.path_rows.specs.Changes.{Making, Adding};
-ghost use Rattle.path_entries.specs.path_walks.Replies.{IsChangeReply};
+ghost use Rattle.path_walks.specs.Replies.{IsChangeReply};
 
 use block_id::{BlockId, Fail};
 use fs_model::{Attr, ENTRY_SIZE, FsError, MAX_ENTRIES, MAX_MODE, MAX_TARGET, Moment, Name, Reply};
-use path_entries::blob_api::Blobs;
-use path_entries::dir_blob::insert_in;
-use path_entries::dir_entries::Entry;
-use path_entries::fs_blobs::{Header, new_blob};
-use path_entries::path_walks::{Folder, done};
-use path_entries::touch;
+use path_walks::blob_api::Blobs;
+use path_walks::dir_blob::insert_in;
+use path_walks::dir_entries::Entry;
+use path_walks::fs_blobs::{Header, new_blob};
+use path_walks::{Folder, done, touch};
 use std::alloc::Global;
 
 /// A free name in a directory, whose body was read.

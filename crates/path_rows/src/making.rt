@@ -1,22 +1,22 @@
 // Commands that make a row.
 ghost use Rattle.std.specs.Prelude.{◌≤◌, [], IfOk, IsTrue, length};
-ghost use Rattle.path_entries.specs.outcome.Outcome.{Outcome};
+ghost use Rattle.path_walks.specs.store_outcome.Outcome.{Outcome};
 ghost use Rattle.fs_model.specs.declared.attr.Kind.TheVariants.{Directory, File, Link};
 ghost use Rattle.fs_model.specs.Fitting.{is_target};
 ghost use Rattle.fs_model.specs.Tree.{upward, IsWithinLimits};
 ghost use Rattle.fs_model.specs.LookUp.{look};
 ghost use Rattle.fs_model.specs.Step.{made, new_row};
-ghost use Rattle.path_entries.specs.forest.Showing.{BlobsShow, Performed};
-ghost use Rattle.path_entries.specs.path_walks.Replies.{IsChangeReply};
+ghost use Rattle.path_walks.specs.Showing.{BlobsShow, Performed};
+ghost use Rattle.path_walks.specs.Replies.{IsChangeReply};
 
 use crate::made::{Vacancy, make_in};
 use block_id::{BlockId, Fail};
 use fs_model::{
     Attr, DIRECTORY_MODE, FILE_MODE, FsError, Kind, LINK_MODE, MAX_TARGET, Moment, Name, Reply,
+    new_attr,
 };
-use path_entries::blob_api::Blobs;
-use path_entries::path_walks::{Folder, Sight, look_at, split_last};
-use path_entries::tree_rules::new_attr;
+use path_walks::blob_api::Blobs;
+use path_walks::{Folder, Sight, look_at, split_last};
 use std::alloc::Global;
 
 /// A new directory.

@@ -1,21 +1,20 @@
 // A row that moves, to a free name or onto another row.
 ghost use Rattle.std.specs.Prelude.{◌≤◌, ◌∷◌, IfOk};
-ghost use Rattle.path_entries.specs.outcome.Outcome.{Outcome};
+ghost use Rattle.path_walks.specs.store_outcome.Outcome.{Outcome};
 ghost use Rattle.fs_model.specs.Step.{moved_tree, moved_unless_large};
-ghost use Rattle.path_entries.specs.forest.Midst.{moved_ids};
-ghost use Rattle.path_entries.specs.forest.Showing.{PerformedBy};
-ghost use Rattle.path_entries.specs.path_walks.Replies.{IsChangeReply};
+ghost use Rattle.path_walks.specs.Midst.{moved_ids};
+ghost use Rattle.path_walks.specs.Showing.{PerformedBy};
+ghost use Rattle.path_walks.specs.Replies.{IsChangeReply};
 ghost use Rattle.path_rows.specs.Moves.{Heading, Replacing, ids_then};
 
 use crate::changes::{drop_at, relocate};
 use crate::made::Vacancy;
 use block_id::Fail;
 use fs_model::{Attr, ENTRY_SIZE, FsError, MAX_ENTRIES, MAX_MODE, Moment, Reply};
-use path_entries::blob_api::Blobs;
-use path_entries::dir_blob::body_without;
-use path_entries::dir_entries::Entry;
-use path_entries::path_walks::{Folder, Occupancy, done};
-use path_entries::{is_same, touch_both};
+use path_walks::blob_api::Blobs;
+use path_walks::dir_blob::body_without;
+use path_walks::dir_entries::Entry;
+use path_walks::{Folder, Occupancy, done, is_same, touch_both};
 use std::alloc::Global;
 
 /// A row moves to a free path, where the directory there has room for its entry. The directories that it leaves and

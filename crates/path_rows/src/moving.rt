@@ -1,12 +1,12 @@
 // Moving what stands at a path, with all that stands below it.
 ghost use Rattle.std.specs.Prelude.{◌≡◌, ◌≤◌, ◌∷◌, IfOk};
-ghost use Rattle.path_entries.specs.outcome.Outcome.{Outcome};
+ghost use Rattle.path_walks.specs.store_outcome.Outcome.{Outcome};
 ghost use Rattle.fs_model.specs.Tree.{upward, is_directory as model_is_directory};
 ghost use Rattle.fs_model.specs.LookUp.{look};
 ghost use Rattle.fs_model.specs.Step.{unless_root, moved_from, moved_to};
-ghost use Rattle.path_entries.specs.forest.Showing.{BlobsShow, Performed};
-ghost use Rattle.path_entries.specs.path_walks.Replies.{IsChangeReply};
-ghost use Rattle.path_entries.specs.path_walks.Sights.{Standing};
+ghost use Rattle.path_walks.specs.Showing.{BlobsShow, Performed};
+ghost use Rattle.path_walks.specs.Replies.{IsChangeReply};
+ghost use Rattle.path_walks.specs.Sights.{Standing};
 ghost use Rattle.path_rows.specs.Onward.{Onward, RefusesOnto};
 
 use crate::beside::look_beside;
@@ -14,10 +14,9 @@ use crate::folders::{has_child, is_directory};
 use crate::made::Vacancy;
 use crate::moves::{move_free, move_onto};
 use block_id::{BlockId, Fail};
-use fs_model::{FsError, MAX_MODE, Moment, Name, Reply};
-use path_entries::blob_api::Blobs;
-use path_entries::path_walks::{Folder, Occupancy, Place, Reached, Sight, reach, split_last};
-use path_entries::tree_rules::{is_above, same_names};
+use fs_model::{FsError, MAX_MODE, Moment, Name, Reply, is_above, same_names};
+use path_walks::blob_api::Blobs;
+use path_walks::{Folder, Occupancy, Place, Reached, Sight, reach, split_last};
 use std::alloc::Global;
 
 /// Every path that has the prefix `from` gets the prefix `to`.

@@ -1,20 +1,19 @@
 // Commands that take a row away.
 ghost use Rattle.std.specs.Prelude.{◌≤◌, ◌∷◌, IfOk};
-ghost use Rattle.path_entries.specs.outcome.Outcome.{Outcome};
+ghost use Rattle.path_walks.specs.store_outcome.Outcome.{Outcome};
 ghost use Rattle.fs_model.specs.Tree.{upward};
 ghost use Rattle.fs_model.specs.LookUp.{Found, look};
 ghost use Rattle.fs_model.specs.Step.{unless_root, removed_directory, removed_file};
-ghost use Rattle.path_entries.specs.forest.Showing.{BlobsShow, Performed};
-ghost use Rattle.path_entries.specs.path_walks.Replies.{IsChangeReply};
-ghost use Rattle.path_entries.specs.path_walks.Sights.{Finding};
+ghost use Rattle.path_walks.specs.Showing.{BlobsShow, Performed};
+ghost use Rattle.path_walks.specs.Replies.{IsChangeReply};
+ghost use Rattle.path_walks.specs.Sights.{Finding};
 
 use crate::changes::drop_at;
 use crate::folders::{has_child, is_directory};
 use block_id::{BlockId, Fail};
 use fs_model::{FsError, Kind, MAX_MODE, Moment, Name, Reply};
-use path_entries::blob_api::Blobs;
-use path_entries::path_walks::{Occupancy, Reached, done, reach};
-use path_entries::touch;
+use path_walks::blob_api::Blobs;
+use path_walks::{Occupancy, Reached, done, reach, touch};
 use std::alloc::Global;
 
 /// An empty directory goes.

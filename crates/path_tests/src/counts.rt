@@ -1,13 +1,13 @@
 // How many files the lines of a story read and write, each on rows that were made before.
 ghost use Rattle.std.specs.Prelude.{IfOk};
-ghost use Rattle.store_session.specs.store_api.Holdings.{IsFew};
+ghost use Rattle.memory_stores.specs.store_api.Holdings.{IsFew};
 
 use crate::tower::{Store, answer_each, empty_store, rooted};
 use memory_outside::Event;
+use memory_stores::store_api::{Durable, Tx};
+use path_layer::blob_store::BlobStore;
 use std::alloc::Global;
 use std::test::Fail;
-use store_session::store_api::{Durable, Tx};
-use tree_commands::blob_store::BlobStore;
 
 /// How many files were read and written in a store's directory.
 pub fn counted(store: Store) -> (usize, usize) {

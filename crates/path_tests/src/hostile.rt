@@ -2,11 +2,11 @@
 use crate::site::{Site, empty_site, parsed, shown};
 use block_id::BlockId;
 use fs_model::{Attr, FILE_MODE, Kind, Moment, Name};
+use path_layer::dir_blob::insert;
+use path_layer::dir_entries::Entry;
+use path_layer::fs_blobs::{Header, new_blob};
 use std::alloc::Global;
 use std::test::Fail;
-use tree_commands::dir_blob::insert;
-use tree_commands::dir_entries::Entry;
-use tree_commands::fs_blobs::{Header, new_blob};
 
 /// What a line is answered, or that the blobs are no tree.
 fn seen(alloc: Global, site: &mut Site, line: &str) -> Result<String, Fail> {

@@ -1,17 +1,17 @@
 // How many blocks each call on a tree loads.
 ghost use Rattle.std.specs.Prelude.{◌≡◌, IfOk};
-ghost use Rattle.store_session.specs.store_api.Holdings.{IsFew};
-ghost use Rattle.store_session.specs.store_api.Txs.{intact_in};
+ghost use Rattle.memory_stores.specs.store_api.Holdings.{IsFew};
+ghost use Rattle.memory_stores.specs.store_api.Txs.{intact_in};
 
 use crate::counts::counted;
 use crate::tower::empty_store;
 use block_id::BlockId;
+use memory_stores::store_api::{Blocks, BlocksMut, Durable, Tx};
+use path_layer::data_ranges::{resize, write_range};
+use path_layer::data_reads::{drop_tree, len, new_tree, read_range};
 use rand_pcg::Pcg32;
 use std::alloc::Global;
 use std::test::Fail;
-use store_session::store_api::{Blocks, BlocksMut, Durable, Tx};
-use tree_commands::tree_calls::{drop_tree, len, new_tree, read_range};
-use tree_commands::tree_ranges::{resize, write_range};
 
 /// A row: the bytes of the tree, the call, its place, and its number of bytes or the new length; then how often a block is
 /// loaded, as a sum.

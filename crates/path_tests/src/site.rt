@@ -1,14 +1,14 @@
 // Blobs in memory that show a tree, beside the tree in memory, and commands on both.
 use block_id::{BlockId, Fail as Failure, Why};
 use fs_model::{Command, Moment, Reply};
-use map_blobs::MapBlobs;
-use map_blobs::blob_api::Blobs;
+use memory_stores::MapBlobs;
+use memory_stores::blob_api::Blobs;
+use path_layer::path_rows::empty_root;
+use path_layer::perform_on_blobs;
 use plain_tree::PlainTree;
 use script_text::{parse_line, print_reply};
 use std::alloc::Global;
 use std::test::Fail;
-use tree_commands::path_rows::empty_root;
-use tree_commands::perform_on_blobs;
 
 /// The blobs, their root's id, and the tree in memory.
 #[derive(Drop)]

@@ -1,8 +1,8 @@
 // A file system in sealed blocks of 128 bytes over a directory in memory, and lines on it.
 ghost use Rattle.std.specs.Prelude.{◌≡◌, [], IfOk};
 ghost use Rattle.integrity_store.specs.sealed_store.Stores.{IsIntact, block_size_of, cipher_of};
-ghost use Rattle.store_session.specs.store_api.Holdings.{IsFew};
-ghost use Rattle.store_session.specs.store_api.Txs.{intact_in};
+ghost use Rattle.memory_stores.specs.store_api.Holdings.{IsFew};
+ghost use Rattle.memory_stores.specs.store_api.Txs.{intact_in};
 
 use crate::site::{parsed, text_of};
 use aes_gcm::Aes256Gcm;
@@ -13,14 +13,14 @@ use integrity_store::local_state::{Known, State, decode, encode};
 use integrity_store::redo_vault::RedoVault;
 use integrity_store::sealed_store::SealedStore;
 use memory_outside::MemoryVault;
+use memory_stores::put_one;
+use memory_stores::store_api::{Blocks, BlocksMut, Tx};
+use path_layer::blob_store::BlobStore;
+use path_layer::{empty_root, perform};
 use rand_pcg::Pcg32;
 use seal_api::Sealer;
 use std::alloc::Global;
 use std::test::Fail;
-use store_session::put_one;
-use store_session::store_api::{Blocks, BlocksMut, Tx};
-use tree_commands::blob_store::BlobStore;
-use tree_commands::{empty_root, perform};
 
 /// Sealed blocks over a directory in memory.
 pub type Store = IntegrityStore<MemoryVault, Aes256Gcm>;

@@ -2,8 +2,8 @@
 use Rattle.std.proofs.Common.{◌≡◌, ℕ, List, [], ◌∷◌, subst}
 use Rattle.std.specs.Prelude.{Result, Ok}
 use Rattle.block_id.specs.declared.fail.Fail.{Fail}
-use Rattle.dir_blob.specs.outcome.Meanings.{Meanings, Lawful}
-use Rattle.dir_blob.specs.outcome.Outcome.{Outcome, then_, answered}
+use Rattle.dir_blob.specs.store_outcome.Meanings.{Meanings, Lawful}
+use Rattle.dir_blob.specs.store_outcome.Outcome.{Outcome, then_, answered}
 use Rattle.dir_blob.specs.blob_api.BlobMap.{Id, BlobHoldings}
 use Rattle.fs_model.specs.declared.error.FsError.{FsError}
 use Rattle.fs_model.specs.declared.error.FsError.TheVariants.{NoEntry}
@@ -12,7 +12,7 @@ use Rattle.fs_model.specs.declared.reply.Reply.TheVariants.{Error}
 use Rattle.fs_model.specs.Tree.{Path, Tree, upward, root_row}
 use Rattle.fs_model.specs.LookUp.{LookedUp, Found, Free, Bad, look}
 use Rattle.fs_model.specs.Step.{Stepped, refused}
-use Rattle.forest.specs.Showing.{BlobsShow, Performed}
+use Rattle.path_walks.specs.Showing.{BlobsShow, Performed}
 use Rattle.path_walks.specs.declared.reaching.Reached.{Reached}
 use Rattle.path_walks.specs.declared.reaching.Reached.TheVariants.{Refused}
 use Rattle.path_walks.specs.declared.spots.Occupancy.{Occupancy}

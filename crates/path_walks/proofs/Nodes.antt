@@ -13,9 +13,9 @@ use Rattle.dir_blob.specs.fs_blobs.declared.header.TheConstants.{HEADER_LEN}
 use Rattle.dir_blob.specs.fs_blobs.Headers.{blob}
 use Rattle.dir_blob.specs.dir_entries.Layout.{EntryTarget, Listing, body_of, IsEntry, IsListing}
 use Rattle.dir_blob.specs.Directories.{IsDirectory}
-use Rattle.forest.specs.Nodes.{Look, Lists, IsBodyOf}
-use Rattle.forest.specs.Shows.{above, target_for, entries_at, ShowsBy}
-use Rattle.forest.proofs.Shown.{folder_row}
+use Rattle.path_walks.specs.Nodes.{Look, Lists, IsBodyOf}
+use Rattle.path_walks.specs.Shows.{above, target_for, entries_at, ShowsBy}
+use Rattle.path_walks.proofs.Shown.{folder_row}
 use Rattle.path_walks.proofs.Sizes.{sizes_shown, body_size, found_entry}
 use Rattle.std.specs.FinMap.Entries.{find-put}
 use Rattle.std.proofs.lemmas.Bool.{and_parts, leb-true}

@@ -11,8 +11,8 @@ use Rattle.fs_model.specs.Tree.{Path, Tree, upward, IsRooted, root_row}
 use Rattle.fs_model.specs.LookUp.{LookedUp, Found, Free, Bad, look, walk}
 use Rattle.fs_model.specs.Step.{Stepped, refused}
 use Rattle.fs_model.proofs.LookUpLemmas.{look-walk, look-found}
-use Rattle.forest.specs.Shows.{ShowsBy}
-use Rattle.forest.specs.Showing.{BlobsShow}
+use Rattle.path_walks.specs.Shows.{ShowsBy}
+use Rattle.path_walks.specs.Showing.{BlobsShow}
 use Rattle.path_walks.specs.declared.spots.Occupancy.{Occupancy}
 use Rattle.path_walks.specs.declared.spots.Place.{Place}
 use Rattle.path_walks.specs.declared.spots.Sight.{Sight}

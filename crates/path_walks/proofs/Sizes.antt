@@ -16,7 +16,7 @@ use Rattle.fs_model.specs.Tree.{Path, Row, Tree, name_cmp, children, entry_size,
 use Rattle.fs_model.proofs.TreeLemmas.{get-children, name_total, name_exact}
 use Rattle.dir_blob.specs.dir_entries.Layout.{EntryTarget, Listing, entry_text, body_of, IsEntry}
 use Rattle.dir_blob.proofs.dir_entries_lemmas.Edits.{entry_length}
-use Rattle.forest.specs.Shows.{target_for, entries_at}
+use Rattle.path_walks.specs.Shows.{target_for, entries_at}
 
 abbrev pub with_values : {K X Y : Type 0} → (X → Y) → List (K × X) → List (K × Y)
 with_values f es = map (λ e. (e.0, f e.1)) es

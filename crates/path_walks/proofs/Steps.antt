@@ -18,12 +18,12 @@ use Rattle.fs_model.proofs.PutRows.{below_file, below_none}
 use Rattle.dir_blob.specs.dir_entries.Layout.{EntryTarget, body_of}
 use Rattle.dir_blob.specs.dir_entries.Places.{target_of}
 use Rattle.dir_blob.specs.Directories.{IsDirectory}
-use Rattle.tree_rules.proofs.PathLemmas.{names_more}
-use Rattle.forest.specs.Shows.{target_for, ShowsBy}
+use Rattle.fs_model.proofs.PathLemmas.{names_more}
+use Rattle.path_walks.specs.Shows.{target_for, ShowsBy}
 use Rattle.path_walks.specs.declared.spots.Place.{Place}
 use Rattle.path_walks.specs.declared.spots.Spot.{Spot}
 use Rattle.path_walks.specs.declared.spots.Spot.TheVariants.{Here, Wrong}
-use Rattle.forest.specs.Showing.{BlobsShow}
+use Rattle.path_walks.specs.Showing.{BlobsShow}
 use Rattle.path_walks.specs.Sights.{IsAt, IsWrong, SpotIs, SightIs, sight_of, Walking}
 use Rattle.path_walks.proofs.Nodes.{lists_at, directory_at}
 

@@ -2,15 +2,15 @@
 use Rattle.std.proofs.Common.{◌≡◌, Ok, Err, refl, sym, subst}
 use Rattle.std.specs.Prelude.{Result}
 use Rattle.block_id.specs.declared.fail.Fail.{Fail}
-use Rattle.dir_blob.specs.outcome.Meanings.{Meanings}
-use Rattle.dir_blob.specs.outcome.Outcome.{Outcome, passed, answered as answered_by}
+use Rattle.dir_blob.specs.store_outcome.Meanings.{Meanings}
+use Rattle.dir_blob.specs.store_outcome.Outcome.{Outcome, passed, answered as answered_by}
 use Rattle.dir_blob.specs.blob_api.BlobMap.{Id, BlobMap, BlobHoldings}
 use Rattle.fs_model.specs.declared.reply.Reply.{Reply}
 use Rattle.fs_model.specs.Tree.{Path, Tree}
 use Rattle.fs_model.specs.declared.reply.Reply.TheVariants.{Done}
 use Rattle.fs_model.specs.Step.{Stepped, answered, done}
-use Rattle.forest.specs.Shows.{ShowsBy}
-use Rattle.forest.specs.Showing.{IsShownBy, Performed}
+use Rattle.path_walks.specs.Shows.{ShowsBy}
+use Rattle.path_walks.specs.Showing.{IsShownBy, Performed}
 use Rattle.path_walks.specs.Replies.{replied}
 
 -- the tree stays, and this is the reply

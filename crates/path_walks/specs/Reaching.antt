@@ -8,8 +8,8 @@ use Rattle.fs_model.specs.declared.error.FsError.TheVariants.{NoEntry}
 use Rattle.fs_model.specs.declared.limits.TheConstants.{MAX_MODE}
 use Rattle.fs_model.specs.Tree.{Path, Tree, upward}
 use Rattle.fs_model.specs.LookUp.{LookedUp, Found, Free, Bad, look}
-use Rattle.forest.specs.Nodes.{Lists}
-use Rattle.forest.specs.Shows.{entries_at}
+use Rattle.path_walks.specs.Nodes.{Lists}
+use Rattle.path_walks.specs.Shows.{entries_at}
 use Rattle.path_walks.specs.declared.spots.Occupancy.{Occupancy}
 use Rattle.path_walks.specs.Sights.{IsFound}
 use Rattle.path_walks.specs.declared.reaching.Reached.{Reached}

@@ -12,8 +12,8 @@ use Rattle.fs_model.specs.declared.error.FsError.{FsError}
 use Rattle.fs_model.specs.declared.limits.TheConstants.{MAX_MODE}
 use Rattle.fs_model.specs.Tree.{Path, Row, Tree, upward}
 use Rattle.fs_model.specs.LookUp.{Found, Bad, walk}
-use Rattle.forest.specs.Nodes.{Lists}
-use Rattle.forest.specs.Shows.{ShowsBy, entries_at}
+use Rattle.path_walks.specs.Nodes.{Lists}
+use Rattle.path_walks.specs.Shows.{ShowsBy, entries_at}
 use Rattle.path_walks.specs.declared.spots.Occupancy.{Occupancy}
 use Rattle.path_walks.specs.declared.spots.Place.{Place}
 use Rattle.path_walks.specs.declared.spots.Spot.{Spot}

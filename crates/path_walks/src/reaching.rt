@@ -1,8 +1,8 @@
 // The row that a command changes.
 ghost use Rattle.std.specs.Prelude.{◌≡◌, IfOk};
-ghost use Rattle.dir_blob.specs.outcome.Outcome.{Outcome};
+ghost use Rattle.dir_blob.specs.store_outcome.Outcome.{Outcome};
 ghost use Rattle.fs_model.specs.Tree.{upward};
-ghost use Rattle.forest.specs.Showing.{BlobsShow};
+ghost use Rattle.path_walks.specs.Showing.{BlobsShow};
 ghost use Rattle.path_walks.specs.Reaching.{ReachedIs, HaveRowModes};
 
 use crate::names::split_last;

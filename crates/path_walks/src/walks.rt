@@ -1,17 +1,16 @@
 // Along the names of a path.
 ghost use Rattle.std.specs.Prelude.{◌≡◌, ◌∷◌, IfOk};
-ghost use Rattle.dir_blob.specs.outcome.Outcome.{Outcome};
+ghost use Rattle.dir_blob.specs.store_outcome.Outcome.{Outcome};
 ghost use Rattle.fs_model.specs.Tree.{upward};
-ghost use Rattle.forest.specs.Showing.{BlobsShow};
+ghost use Rattle.path_walks.specs.Showing.{BlobsShow};
 ghost use Rattle.path_walks.specs.Sights.{SpotIs, SightIs, HasMode, HaveModes, Walking};
 
 use crate::{Place, Sight, Spot};
 use block_id::{BlockId, Fail};
 use dir_blob::blob_api::Blobs;
 use dir_blob::{find_in, find_target};
-use fs_model::{FsError, Kind, Name};
+use fs_model::{FsError, Kind, Name, root_attr};
 use std::alloc::Global;
-use tree_rules::root_attr;
 
 /// One name further.
 pub fn advance<B: Blobs>(alloc: Global, b: &mut B, spot: Spot, name: &Name) -> Result<Spot, Fail>

@@ -23,8 +23,8 @@ use Rattle.fs_model.proofs.MovedTree.{not_above, strip_none, moved-here, moved-b
 use Rattle.fs_model.proofs.MovedSize.{size_within_free, size_within_found, size_across_free, size_across_found}
 use Rattle.fs_model.proofs.PutRows.{below_file, bare_below}
 use Rattle.fs_model.proofs.WellFormedStep.{can_move_free, can_move_found}
-use Rattle.row_table.proofs.tree_rules_lemmas.PathLemmas.{parent_at, name_at}
-use Rattle.row_table.specs.Moves.{IsBelowMoved}
+use Rattle.fs_model.proofs.PathLemmas.{parent_at, name_at}
+use Rattle.plain_rows.specs.Moves.{IsBelowMoved}
 use Rattle.plain_tree.specs.Moves.{IsMove, held}
 use Rattle.plain_tree.proofs.StepLemmas.{bytes_are, same_row}
 

@@ -25,7 +25,7 @@ use Rattle.block_id.specs.Contents.{overwritten, resized}
 use Rattle.fs_model.specs.Step.{Stepped, answered, refused, done, step, unless_root, made, touched, has_child, removed_directory, removed_file, attributes_set, written, truncated, on_file, is_too_long, with_content}
 use Rattle.fs_model.proofs.TreeLemmas.{path_total, path_exact, path_split, insert_here, insert_apart, set_again}
 use Rattle.fs_model.proofs.LookUpLemmas.{look-walk, get-found, get-free}
-use Rattle.row_table.proofs.tree_rules_lemmas.PathLemmas.{last_at}
+use Rattle.fs_model.proofs.PathLemmas.{last_at}
 use Rattle.plain_tree.specs.Answers.{IsAnswer}
 
 -- names that aren't none

@@ -6,13 +6,12 @@ ghost use Rattle.fs_model.specs.Tree.{parent, upward, IsWellFormed};
 ghost use Rattle.fs_model.specs.LookUp.{look};
 ghost use Rattle.fs_model.specs.Step as step;
 ghost use Rattle.plain_tree.specs.Answers.{IsAnswer};
-ghost use Rattle.row_table.specs.tree_rules.Changes.{changed_by};
+ghost use Rattle.fs_model.specs.Changes.{changed_by};
 
 use crate::look::{file_of, row_of};
 use block_id::Memory;
-use fs_model::{Attr, FsError, Moment, Name, Reply};
-use row_table::Table;
-use row_table::tree_rules::{AttrChange, changed, is_too_long};
+use fs_model::{Attr, AttrChange, FsError, Moment, Name, Reply, changed, is_too_long};
+use plain_rows::Table;
 
 /// Sets attributes.
 pub fn set_attributes(table: &mut Table, names: &[Name], change: AttrChange, now: Moment) -> Reply

@@ -10,7 +10,7 @@ use crate::change::touch_above;
 use crate::look::{LookUp, look_up, row_of};
 use block_id::Memory;
 use fs_model::{Attr, FsError, Kind, MAX_ENTRIES, Moment, Name, Reply};
-use row_table::{Table, name_size};
+use plain_rows::{Table, name_size};
 
 /// A directory, and not a file or a link.
 pub fn is_directory(kind: Kind) -> bool

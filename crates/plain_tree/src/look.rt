@@ -5,7 +5,7 @@ ghost use Rattle.fs_model.specs.LookUp.{Found, look};
 ghost use Rattle.plain_tree.specs.Sights.{IsFileAt, seen_of, refusal_of, file_refusal};
 
 use fs_model::{Attr, FsError, Kind, Name};
-use row_table::Table;
+use plain_rows::Table;
 
 /// What a look-up gives: a row, that the path is free, or an error.
 #[derive(Clone, Copy)]

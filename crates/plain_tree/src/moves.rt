@@ -8,7 +8,7 @@ ghost use Rattle.fs_model.specs.Tree as model;
 ghost use Rattle.fs_model.specs.LookUp.{Found, look};
 ghost use Rattle.fs_model.specs.Move as step_move;
 ghost use Rattle.fs_model.specs.Step as step;
-ghost use Rattle.row_table.specs.Moves.{IsBelowMoved};
+ghost use Rattle.plain_rows.specs.Moves.{IsBelowMoved};
 ghost use Rattle.plain_tree.specs.Answers.{IsAnswer};
 ghost use Rattle.plain_tree.specs.Moves.{IsMove, held};
 
@@ -16,9 +16,8 @@ use crate::change::{same_attr, touch_above};
 use crate::edit::{has_child, is_directory};
 use crate::look::{LookUp, look_up, row_of};
 use block_id::Memory;
-use fs_model::{Attr, FsError, Kind, MAX_ENTRIES, Moment, Name, Reply};
-use row_table::tree_rules::{is_above, same_names};
-use row_table::{Table, name_size};
+use fs_model::{Attr, FsError, Kind, MAX_ENTRIES, Moment, Name, Reply, is_above, same_names};
+use plain_rows::{Table, name_size};
 
 /// The bytes of the entry that leaves `to`'s parent.
 fn size_left(from: &[Name], to: &[Name]) -> u64

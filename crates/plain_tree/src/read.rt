@@ -8,7 +8,7 @@ ghost use Rattle.plain_tree.specs.Answers.{content_reply};
 use crate::look::row_of;
 use block_id::Memory;
 use fs_model::{ByteText, FsError, Kind, MAX_READ, Name, Reply, RowList};
-use row_table::Table;
+use plain_rows::Table;
 use std::alloc::Global;
 
 /// Kind and name of each child.

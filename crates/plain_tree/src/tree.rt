@@ -14,10 +14,10 @@ use crate::read::{list, read, read_link, stat};
 use block_id::Memory;
 use fs_model::laws::keeps_well_formed;
 use fs_model::{
-    ByteText, Command, DIRECTORY_MODE, FILE_MODE, Kind, LINK_MODE, Moment, Name, Reply,
+    AttrChange, ByteText, Command, DIRECTORY_MODE, FILE_MODE, Kind, LINK_MODE, Moment, Name, Reply,
+    new_attr,
 };
-use row_table::Table;
-use row_table::tree_rules::{AttrChange, new_attr};
+use plain_rows::Table;
 use std::alloc::Global;
 use std::marker::Model;
 

@@ -1,7 +1,7 @@
 // What the system gives the program.
 ghost use Rattle.std.specs.Prelude.{◌≡◌, IfOk};
-ghost use Rattle.real_folders.specs.FolderLog.{calls_of};
-ghost use Rattle.real_host.specs.Adapters.{host_faults};
+ghost use Rattle.real_outside.specs.FolderLog.{calls_of};
+ghost use Rattle.real_host_folder.specs.Adapters.{host_faults};
 
 use crate::host_word::take_folder;
 use crate::options::{Options, no_options, take_options};
@@ -12,8 +12,8 @@ use fs_model::Moment;
 use outside::Memory;
 use rand_chacha::ChaCha20Rng;
 use rand_core::Rng;
-use real_folders::{FolderKeeper, FolderRun, FolderVault};
-use real_host::RealHost;
+use real_host_folder::RealHost;
+use real_outside::{FolderKeeper, FolderRun, FolderVault};
 use run_status::Status;
 use std::alloc::Global;
 use std::env;

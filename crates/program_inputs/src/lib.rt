@@ -10,5 +10,5 @@ mod streams;
 pub use inputs::Inputs;
 
 // Handed on to crates above, which needn't list them.
-pub use real_folders;
-pub use real_host::host_folder;
+pub use real_host_folder::host_folder;
+pub use real_outside;

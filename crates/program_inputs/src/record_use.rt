@@ -1,11 +1,11 @@
 // Whether words need the local record.
 ghost use Rattle.std.specs.Prelude.{◌≡◌, true, map, IfOk, OnErr};
 ghost use Rattle.std.specs.String.{string_bytes};
-ghost use Rattle.shell_words.specs.Forms.{form_of, takes_memory};
+ghost use Rattle.program_words.specs.Forms.{form_of, takes_memory};
 ghost use Rattle.program_inputs.specs.RecordUse.{uses_record};
 
 use outside::Memory;
-use shell_words::{Form, read_form};
+use program_words::{Form, read_form};
 use std::alloc::Global;
 
 /// Whether the program's run with these words may call the local record. Where it doesn't, it gives it back as it got it (the clauses

@@ -1,2 +1,5 @@
 pub mod Carried
 mod Written
+pub mod One
+pub mod All
+pub mod Formats

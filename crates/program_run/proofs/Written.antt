@@ -2,31 +2,31 @@
 use Rattle.std.proofs.Common.{◌≡◌, ◌++◌, ℕ, true, List, [], ◌∷◌, sym, ap, subst, ◌∙◌, append-nil, append_assoc, inl, inr}
 use Rattle.std.specs.declared.option.Option.{Option}
 use Rattle.std.specs.declared.option.Option.TheVariants.{None, Some}
-use Rattle.run_histories.specs.answers.Sessions.{Exchange}
-use Rattle.run_histories.specs.answers.Texts.{text_of_answer}
-use Rattle.run_histories.specs.config_file.Settings.{Settings}
-use Rattle.run_histories.specs.cryfs_shell.Doing.{Did}
-use Rattle.run_histories.specs.cryfs_shell.Hosts.{HostSeen}
-use Rattle.run_histories.specs.cryfs_shell.Streams.{streams_of}
+use Rattle.cryfs_shell.specs.answers.Sessions.{Exchange}
+use Rattle.cryfs_shell.specs.answers.Texts.{text_of_answer}
+use Rattle.cryfs_shell.specs.config_file.Settings.{Settings}
+use Rattle.cryfs_shell.specs.Doing.{Did}
+use Rattle.cryfs_shell.specs.Hosts.{HostSeen}
+use Rattle.cryfs_shell.specs.Streams.{streams_of}
 use Rattle.fs_model.specs.Instant.{Instant}
 use Rattle.fs_model.specs.Tree.{Tree}
-use Rattle.run_histories.specs.line_io.Streams.{Stream, Untouched, Cut}
+use Rattle.cryfs_shell.specs.line_io.Streams.{Stream, Untouched, Cut}
 use Rattle.outside.specs.Streams.{appends}
 use Rattle.outside.specs.Trace.{Call}
 use Rattle.outside.specs.declared.keeper.Keeper.{Ghosts as KeeperGhosts}
 use Rattle.rand_core.specs.Stream.{Stream as Chance}
-use Rattle.run_histories.specs.Calls.{RunCall, IsRunCall}
+use Rattle.program_run.specs.Calls.{RunCall, IsRunCall}
 use Rattle.run_status.specs.declared.ended.Ended.{Ended}
 use Rattle.run_status.specs.declared.status.Status.{Status}
-use Rattle.run_histories.specs.session_lines.Asking.{said_in, CutLast, single}
-use Rattle.run_histories.specs.session_lines.declared.end.End.{End}
-use Rattle.run_histories.specs.session_lines.declared.end.End.TheVariants.{Finished, InputFault, OutputFault}
-use Rattle.run_histories.specs.session_runs.Runs.{Outside, outside_of, IsFounded}
-use Rattle.run_histories.specs.shell_sessions.Sessions.{Session, IsServed, ComesShell, ComesCommand}
-use Rattle.program_inputs.specs.shell_words.declared.form.Form.{Form}
-use Rattle.program_inputs.specs.shell_words.declared.form.Form.TheVariants.{Trial, TrialGenerate, Create, Info, Passwd, Migrate, Shell, Generate, Command, Import, Export, Put, Get, Check, Survey}
-use Rattle.program_inputs.specs.shell_words.Forms.{form_of, joined}
-use Rattle.run_histories.specs.mount_core.Showing.{ShowsFiles}
+use Rattle.cryfs_shell.specs.session_lines.Asking.{said_in, CutLast, single}
+use Rattle.cryfs_shell.specs.session_lines.declared.end.End.{End}
+use Rattle.cryfs_shell.specs.session_lines.declared.end.End.TheVariants.{Finished, InputFault, OutputFault}
+use Rattle.cryfs_shell.specs.session_laws.Runs.{Outside, outside_of, IsFounded}
+use Rattle.cryfs_shell.specs.shell_runs.Sessions.{Session, IsServed, ComesShell, ComesCommand}
+use Rattle.program_inputs.specs.program_words.declared.form.Form.{Form}
+use Rattle.program_inputs.specs.program_words.declared.form.Form.TheVariants.{Trial, TrialGenerate, Create, Info, Passwd, Migrate, Shell, Generate, Command, Import, Export, Put, Get, Check, Survey}
+use Rattle.program_inputs.specs.program_words.Forms.{form_of, joined}
+use Rattle.cryfs_shell.specs.mount_core.Showing.{ShowsFiles}
 use Rattle.program_run.specs.Program.{told, program_call}
 use Rattle.program_run.specs.Written.{WroteSession, answers_lines, WritesSession}
 

@@ -2,17 +2,17 @@
 use Rattle.std.specs.Prelude.{ℕ, List}
 use Rattle.std.specs.declared.option.Option.{Option}
 use Rattle.std.specs.declared.option.Option.TheVariants.{None, Some}
-use Rattle.run_histories.specs.cryfs_shell.Streams.{Streams}
+use Rattle.cryfs_shell.specs.Streams.{Streams}
 use Rattle.fs_model.specs.Instant.{Instant}
-use Rattle.run_histories.specs.line_io.Streams.{Stream}
+use Rattle.cryfs_shell.specs.line_io.Streams.{Stream}
 use Rattle.outside.specs.Trace.{Call}
 use Rattle.outside.specs.declared.keeper.Keeper.{Ghosts as KeeperGhosts}
-use Rattle.program_inputs.specs.real_folders.Adapters.{FolderVaultState, FolderKeeperState, kept_in}
+use Rattle.real_outside.specs.Adapters.{FolderVaultState, FolderKeeperState, kept_in}
 use Rattle.run_status.specs.declared.ended.Ended.{Ended}
 use Rattle.run_status.specs.declared.status.Status.{Status}
 use Rattle.run_status.specs.declared.storage.Storage.{Storage}
-use Rattle.run_histories.specs.Calls.{RunCall}
-use Rattle.run_histories.specs.session_runs.Runs.{Outside}
+use Rattle.program_run.specs.Calls.{RunCall}
+use Rattle.cryfs_shell.specs.session_laws.Runs.{Outside}
 
 -- the calls that a block directory tells, its faults, its names, of which it tells none, and what is seen of a local record
 abbrev pub folder_calls : FolderVaultState → Option (List Call)

@@ -2,16 +2,16 @@
 use Rattle.std.specs.Prelude.{◌≡◌, ℕ, Bool, true, false, List, ◌++◌}
 use Rattle.std.specs.declared.option.Option.{Option}
 use Rattle.std.specs.declared.option.Option.TheVariants.{Some}
-use Rattle.run_histories.specs.answers.Sessions.{Exchange, IsSession}
-use Rattle.run_histories.specs.config_file.Settings.{Settings}
+use Rattle.cryfs_shell.specs.answers.Sessions.{Exchange, IsSession}
+use Rattle.cryfs_shell.specs.config_file.Settings.{Settings}
 use Rattle.fs_model.specs.Instant.{Instant}
 use Rattle.fs_model.specs.Tree.{Tree}
-use Rattle.run_histories.specs.session_lines.Asking.{said_in}
-use Rattle.run_histories.specs.session_runs.Runs.{Outside, IsFounded}
-use Rattle.program_inputs.specs.shell_words.declared.form.Form.{Form}
-use Rattle.program_inputs.specs.shell_words.declared.form.Form.TheVariants.{Shell, Command}
-use Rattle.program_inputs.specs.shell_words.Forms.{form_of}
-use Rattle.run_histories.specs.mount_core.Showing.{ShowsFiles}
+use Rattle.cryfs_shell.specs.session_lines.Asking.{said_in}
+use Rattle.cryfs_shell.specs.session_laws.Runs.{Outside, IsFounded}
+use Rattle.program_inputs.specs.program_words.declared.form.Form.{Form}
+use Rattle.program_inputs.specs.program_words.declared.form.Form.TheVariants.{Shell, Command}
+use Rattle.program_inputs.specs.program_words.Forms.{form_of}
+use Rattle.cryfs_shell.specs.mount_core.Showing.{ShowsFiles}
 
 -- what was written behind the old bytes are the texts of the answers of a session of the plain tree from this tree on; some of them may be cut off at the end
 pub record WroteSession (now : Instant) (first : Tree) (old new : List ℕ) : Type 0 where

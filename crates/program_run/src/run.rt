@@ -1,20 +1,19 @@
 // The program's one call, over real folders.
 ghost use Rattle.std.specs.Prelude.{◌≡◌, [], ◌∷◌, map};
 ghost use Rattle.std.specs.String.{string_bytes};
-ghost use Rattle.run_histories.specs.cryfs_shell.Hosts.{host_of};
-ghost use Rattle.run_histories.specs.cryfs_shell.Streams.{streams_of};
-ghost use Rattle.real_streams.specs.Adapters.{source_faults, sink_faults, written_by};
-ghost use Rattle.run_histories.specs.Calls.{IsRunCall};
-ghost use Rattle.run_histories.specs.Lists.{AreRunCalls};
+ghost use Rattle.cryfs_shell.specs.Hosts.{host_of};
+ghost use Rattle.cryfs_shell.specs.Streams.{streams_of};
+ghost use Rattle.real_outside.specs.StreamsAdapters.{source_faults, sink_faults, written_by};
+ghost use Rattle.program_run.specs.Calls.{IsRunCall};
+ghost use Rattle.program_run.specs.Lists.{AreRunCalls};
 ghost use Rattle.program_run.specs.Written.{WritesSession};
 ghost use Rattle.program_run.specs.Program.{folder_calls, folder_faults, folder_names, folder_record, at_first, at_last, untold, told, program_call};
 
+use crate::{Request, run_call};
 use program_inputs::Inputs;
 use program_inputs::host_folder::Folder;
-use program_inputs::real_folders::{FolderKeeper, FolderVault};
 use rand_core::Rng;
-use real_streams::{ReaderSource, WriterSink};
-use run_histories::{Request, run_call};
+use real_outside::{FolderKeeper, FolderVault, ReaderSource, WriterSink};
 use run_status::{Ended, Storage};
 use std::alloc::Global;
 use std::io::{Read, Write};

@@ -3,11 +3,10 @@
 use crate::files::configuration;
 use crate::keys::{older_root, spent_record, spent_root};
 use crate::tale::{Tale, noted};
-use outside::FileName;
+use outside::{ByteLine, FileName};
 use std::alloc::{AllocError, Global};
 use std::mem;
 use std::test::Fail;
-use test_systems::listing::ByteLine;
 use test_systems::memory_outside::MemoryKeeper;
 use test_systems::{System, block, file, first_made, store};
 

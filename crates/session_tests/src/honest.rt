@@ -1,7 +1,7 @@
 // A file system that is made in memory, and asked lines there.
 
 use fs_model::Moment;
-use honest_runs::run_in_memory;
+use program_laws::run_in_memory;
 use std::test::Fail;
 use test_systems::ZEROS;
 

@@ -3,3 +3,5 @@ mod Overlays
 pub mod Crowds
 pub mod Draws
 pub mod Ids
+mod Drafts
+mod Places

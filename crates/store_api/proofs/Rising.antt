@@ -12,9 +12,9 @@ use Rattle.std.specs.declared.cmp.Ordering.TheVariants.{Less, Equal}
 use Rattle.block_id.proofs.Orders.{less_so}
 use Rattle.block_id.proofs.Conditions.{left, right}
 use Rattle.block_id.specs.declared.id.BlockId.{BlockId}
-use Rattle.block_batch.specs.declared.batch.BatchChange.{BatchChange}
+use Rattle.store_api.specs.declared.batch.BatchChange.{BatchChange}
 use Rattle.store_api.specs.Content.{Id, id_cmp, same_id}
-use Rattle.block_batch.specs.Entries.{entry_view, entries_of}
+use Rattle.store_api.specs.Entries.{entry_view, entries_of}
 
 pub ids_total : IsTotalOrder id_cmp
 ids_total = nat_list_cmp_total

@@ -1,7 +1,7 @@
 -- What applying a batch of changes leaves: a store before, b after.
 use Rattle.std.specs.Prelude.{◌≡◌}
 use Rattle.std.specs.FinMap as fin
-use Rattle.outcome.specs.Meanings.{Meanings}
+use Rattle.store_outcome.specs.Meanings.{Meanings}
 use Rattle.rand_core.specs.Stream.{Stream}
 use Rattle.store_api.specs.Content.{Changes}
 use Rattle.store_api.specs.Draws.{IsLater}

@@ -3,7 +3,7 @@ use Rattle.std.specs.Prelude.{◌≡◌, ℕ, List, is_some}
 use Rattle.std.specs.FinMap.{get}
 use Rattle.std.specs.declared.option.Option.{Option}
 use Rattle.std.specs.declared.option.Option.TheVariants.{None, Some}
-pub use Rattle.block_batch.specs.Changes.{Id, id_cmp, same_id, Changes}
+pub use Rattle.store_api.specs.Changes.{Id, id_cmp, same_id, Changes}
 
 abbrev pub Content : Type 0
 Content = Id → Option (List ℕ)

@@ -8,7 +8,7 @@ use Rattle.outside.specs.Changes.{change_at, IsIncreasing}
 pub use Rattle.outside.specs.Going.{GoesOn}
 use Rattle.outside.specs.Honest.{LastChange, last_change}
 use Rattle.outside.specs.Plain.{IsPlain}
-use Rattle.outcome.specs.Meanings.{Meanings}
+use Rattle.store_outcome.specs.Meanings.{Meanings}
 use Rattle.std.specs.FinMap.{get}
 use Rattle.store_api.specs.Content.{Content, SameContent, Changes}
 use Rattle.store_api.specs.Holdings.{Holdings}

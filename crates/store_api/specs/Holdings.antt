@@ -6,7 +6,7 @@ use Rattle.std.specs.declared.option.Option.TheVariants.{None, Some}
 use Rattle.std.specs.FinMap.{get}
 use Rattle.block_id.specs.Fresh.{zero_id}
 use Rattle.block_id.specs.declared.sizes.TheConstants.{MIN_PAYLOAD, MAX_BLOCK}
-use Rattle.outcome.specs.Meanings.{Meanings}
+use Rattle.store_outcome.specs.Meanings.{Meanings}
 use Rattle.store_api.specs.Content.{Id, Content, same_id, SameIds, SameContent, Changes, over}
 
 pub record Holdings (S : Type 0) : Type 1 where

@@ -3,7 +3,7 @@ use Rattle.std.specs.Prelude.{◌≡◌, ℕ, true, false, List, [], Result, OnO
 use Rattle.block_id.specs.declared.fail.Memory.{Memory}
 use Rattle.outside.specs.declared.vault.GetFail.{GetFail}
 use Rattle.outside.specs.Writes.{after_writes, StopsAt}
-use Rattle.outcome.specs.Meanings.{Meanings}
+use Rattle.store_outcome.specs.Meanings.{Meanings}
 use Rattle.store_api.specs.Durables.{Durables, Records}
 use Rattle.store_api.specs.Holdings.{Holdings}
 use Rattle.store_api.specs.Lists.{with_config}

@@ -11,5 +11,7 @@ pub mod Loads
 pub mod Overlay
 pub mod Passing
 pub mod Txs
+pub mod Changes
+pub mod Entries
 -- Handed on to crates above, which name their words so and needn't list them.
-pub use Rattle.outcome.specs as outcome
+pub use Rattle.store_outcome.specs as store_outcome

@@ -7,8 +7,8 @@ use Rattle.std.specs.FinMap.{contains_key-keys}
 use Rattle.std.proofs.lemmas.List.Folds.{list_any-append}
 use Rattle.std.proofs.lemmas.Bool.{or_right, or_parts}
 use Rattle.block_id.specs.Fresh.{zero_id}
-use Rattle.outcome.specs.Meanings.{Meanings, Lawful}
-use Rattle.outcome.specs.Outcome.{Outcome}
+use Rattle.store_outcome.specs.Meanings.{Meanings, Lawful}
+use Rattle.store_outcome.specs.Outcome.{Outcome}
 use Rattle.store_api.specs.Content.{Id, same_id, Changes, or_else, over}
 use Rattle.store_api.specs.Holdings.{Holdings, Steady, FitsStore, IsFew, has_id}
 use Rattle.store_api.specs.Ids.{ComeOfSeed, Drawn}

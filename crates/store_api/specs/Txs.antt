@@ -1,6 +1,6 @@
 -- What a command's changes over a store mean and hold, by what the store below means and holds.
 use Rattle.std.specs.Prelude.{◌≡◌, Result, OnErr}
-use Rattle.outcome.specs.Meanings.{Meanings, Lawful}
+use Rattle.store_outcome.specs.Meanings.{Meanings, Lawful}
 use Rattle.store_api.specs.declared.blocks.ApplyError.{ApplyError}
 use Rattle.store_api.specs.declared.tx.Tx.{Tx}
 use Rattle.store_api.specs.Content.{Changes, Content}

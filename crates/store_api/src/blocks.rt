@@ -2,8 +2,8 @@
 ghost use Rattle.std.specs.Prelude.{◌≡◌, ◌≤◌, IfOk, IfErr, IfSome, OnOk, OnErr, length, is_some, min, ◌↔◌};
 ghost use Rattle.std.specs.declared.result.Result.TheVariants.{Err};
 ghost use Rattle.outside.specs.View.{bytes_of};
-ghost use Rattle.outcome.specs.Meanings.{Meanings, Lawful, IsOfBlocks};
-ghost use Rattle.outcome.specs.Outcome.{Outcome};
+ghost use Rattle.store_outcome.specs.Meanings.{Meanings, Lawful, IsOfBlocks};
+ghost use Rattle.store_outcome.specs.Outcome.{Outcome};
 ghost use Rattle.block_id.specs.Fresh.{IsFirstFree};
 ghost use Rattle.rand_core.specs.Stream.{Stream};
 ghost use Rattle.store_api.specs.Applying.{Applies, AppliesNone, KeepsCounts};

@@ -1,8 +1,8 @@
 // One command's changes over a store.
 ghost use Rattle.std.specs.Prelude.{◌≡◌, ◌↔◌, OnOk, OnErr, IfOk, IfErr, IfSome, length, is_some, min, true};
 ghost use Rattle.outside.specs.View.{bytes_of};
-ghost use Rattle.outcome.specs.Meanings.{IsOfBlocks};
-ghost use Rattle.outcome.specs.Outcome.{Outcome};
+ghost use Rattle.store_outcome.specs.Meanings.{IsOfBlocks};
+ghost use Rattle.store_outcome.specs.Outcome.{Outcome};
 ghost use Rattle.std.specs.declared.result.Result.TheVariants.{Err};
 ghost use Rattle.std.specs.FinMap as fin;
 ghost use Rattle.rand_chacha.specs.ChaCha.{of_seed};

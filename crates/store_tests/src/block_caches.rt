@@ -6,11 +6,10 @@ use crate::steps::is_answered;
 use block_cache::BlockCache;
 use block_cache::store_api::{Blocks, BlocksMut};
 use block_id::BlockId;
-use map_store::MapStore;
+use memory_stores::{MapStore, put_one};
 use rand_pcg::Pcg32;
 use std::alloc::Global;
 use std::test::Fail;
-use store_session::put_one;
 
 /// At most how many blocks are cached, and what is done with the blocks a, b, c and d over an empty store: `a=1` has one get
 /// a payload of 50 ones, `a` loads it. Then the first byte that each load gave, and how often the store below was asked.

@@ -1,5 +1,5 @@
 // A store that counts the loads it is asked for, whole or of fronts.
-ghost use Rattle.block_cache.specs.outcome.Lift.{lift_with, lawful_with};
+ghost use Rattle.block_cache.specs.store_outcome.Lift.{lift_with, lawful_with};
 ghost use Rattle.block_cache.specs.Through.{holdings_past, steady_with, stays_past};
 
 use block_cache::store_api::{ApplyError, Batch, Blocks, BlocksMut};

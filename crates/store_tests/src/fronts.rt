@@ -7,7 +7,7 @@ use crate::client_steps::{Client, SEED, new_client, play};
 use crate::counted::Counted;
 use block_cache::BlockCache;
 use block_cache::store_api::{Blocks, Tx};
-use map_store::MapStore;
+use memory_stores::MapStore;
 use std::alloc::Global;
 use std::test::Fail;
 

@@ -4,11 +4,10 @@ ghost use Rattle.block_cache.specs.store_api.Txs.{intact_in};
 use crate::steps::is_answered;
 use block_cache::store_api::{Blocks, BlocksMut, Tx};
 use block_id::BlockId;
-use map_store::MapStore;
+use memory_stores::{MapStore, follow};
 use rand_pcg::Pcg32;
 use std::alloc::Global;
 use std::test::Fail;
-use store_session::follow;
 
 /// Each line is a step with what it answers. New blocks are a, b and so on in the order in which they were made.
 ///

@@ -18,6 +18,6 @@ pub use system::{
 
 // Handed on to crates above, which needn't list them.
 pub use cryfs_shell::{aes_gcm, config_file, local_state};
-pub use memory_folder;
+pub use memory_host_folder;
 pub use memory_outside;
-pub use memory_outside::listing;
+pub use memory_outside::outside;

@@ -5,8 +5,8 @@ ghost use Rattle.run_status.specs.Statuses.{sentence_of};
 
 use crate::random::ZEROS;
 use crate::system::{Run, System, expect, new_system, nothing, outcome_beside, plain, script};
-use memory_folder::MemoryFolder;
-use memory_folder::host_folder::Folder;
+use memory_host_folder::MemoryFolder;
+use memory_host_folder::host_folder::Folder;
 use run_status::Status;
 use std::alloc::Global;
 use std::mem;

@@ -4,8 +4,8 @@ ghost use Rattle.block_cache.specs.store_api.Txs.{intact_in};
 use crate::words::pair;
 use block_cache::store_api::{Blocks, BlocksMut, Tx};
 use block_id::BlockId;
+use memory_stores::{self, put_one};
 use rand_pcg::Pcg32;
-use reopening::store_session::{self, put_one};
 use std::alloc::Global;
 use std::test::Fail;
 
@@ -96,7 +96,7 @@ pub(crate) fn follow<S: BlocksMut>(alloc: Global, tx: &mut Tx<S>, word: &str) ->
     ensures { intact_in S.Blocks.meanings S.Blocks.holdings tx.new }
 {
     let (id, what) = pair(word)?;
-    let found = store_session::follow(alloc, tx, &id)?;
+    let found = memory_stores::follow(alloc, tx, &id)?;
     tx.commit(alloc, &mut Pcg32::new(1, 2))?;
     if found == (what == "found") {
         Ok(())

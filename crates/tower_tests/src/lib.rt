@@ -1,5 +1,8 @@
 //! Stores of sealed blocks over a directory and a local record in memory: what a client sees after rollbacks, faults and
 //! stops, and what its own loads and changes over such a store answer. There is nothing here but tests.
+//!
+//! A store of sealed blocks that is opened anew over the same directory and record, by whatever keeps these: what was put
+//! and synced is loaded by it.
 #![tactic(auto)]
 
 #[cfg(test)]
@@ -10,6 +13,7 @@ mod changes;
 mod orders;
 #[cfg(test)]
 mod promises;
+mod reopening;
 #[cfg(test)]
 mod sessions;
 #[cfg(test)]
@@ -20,3 +24,10 @@ mod stories;
 mod tower;
 #[cfg(test)]
 mod words;
+
+pub use reopening::{Reopened, Seal, put_reopen_load, reopen};
+
+// Handed on to crates above, which needn't list them.
+pub use integrity_store;
+pub use memory_stores;
+pub use record_saver;

@@ -1,16 +1,16 @@
 // What is done to a directory and a record between sessions, and what is seen there.
 
+use crate::Seal;
 use crate::site::{OLDER, Site, begun, file};
 use crate::tower::SEAL;
 use crate::words::{block, number, pair};
 use aes_gcm::Aes256Gcm;
 use block_id::BlockId;
+use integrity_store::block_versions::write_record;
+use integrity_store::redo_vault::RedoVault;
+use integrity_store::sealed_store::SealedStore;
 use memory_outside::{Event, MemoryKeeper, MemoryVault};
 use outside::{Change, FileName, Pending, Vault};
-use reopening::Seal;
-use reopening::integrity_store::block_records::write_record;
-use reopening::integrity_store::redo_vault::RedoVault;
-use reopening::integrity_store::sealed_store::SealedStore;
 use std::alloc::Global;
 use std::mem;
 use std::test::Fail;

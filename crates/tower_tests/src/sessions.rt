@@ -12,7 +12,7 @@ use block_cache::store_api::{Blocks, Durable, Tx};
 use block_id::BlockId;
 use memory_outside::{MemoryKeeper, MemoryVault};
 use outside::Keeper;
-use reopening::session_saver::{Saver, SyncError};
+use record_saver::{Saver, SyncError};
 use std::alloc::Global;
 use std::mem;
 use std::test::Fail;

@@ -2,12 +2,12 @@
 ghost use Rattle.std.specs.Prelude.{◌≡◌, IfOk};
 ghost use Rattle.block_cache.specs.store_api.Holdings.{IsFew};
 
+use crate::{Seal, reopen};
 use aes_gcm::Aes256Gcm;
 use block_cache::BlockCache;
 use block_cache::store_api::Durable;
+use integrity_store::IntegrityStore;
 use memory_outside::MemoryVault;
-use reopening::integrity_store::IntegrityStore;
-use reopening::{Seal, reopen};
 use std::alloc::Global;
 use std::test::Fail;
 

@@ -11,16 +11,16 @@ use Rattle.fs_model.specs.declared.limits.TheConstants.{MAX_PATH_TEXT}
 use Rattle.fs_model.specs.Step.{by_kind}
 use Rattle.fs_model.specs.Tree.{path_cmp}
 use Rattle.fs_model.proofs.TreeLemmas.{path_total, path_exact, path_split}
-use Rattle.row_copy.specs.host_folder.Folders.{HostRow, HostPath, HostTree, IsHostTree, IsMade, directory_row, kind_in}
-use Rattle.row_copy.proofs.host_folder_lemmas.Inserts.{here, other}
-use Rattle.row_copy.specs.copy_rules.declared.copied.Totals.{Totals}
-use Rattle.row_copy.specs.copy_rules.Ends.{text_size, up_to}
-use Rattle.row_copy.specs.copy_rules.Exporting.{IsBare, IsFrontRow, IsPartOf, OnTold, sum_in, totals_in}
-use Rattle.row_copy.specs.copy_rules.Walks.{Met, Todo, todo_in, AreLess, IsWalk}
-use Rattle.row_copy.proofs.copy_rules_lemmas.Ending.{of_find, walk_done}
-use Rattle.row_copy.proofs.copy_rules_lemmas.Walking.{walk_more, found_left}
-use Rattle.row_copy.specs.Reads.{IsRowOut, IsRowPart, with_row}
-use Rattle.row_copy.specs.Rows.{none_copied}
+use Rattle.copy_row.specs.host_folder.Folders.{HostRow, HostPath, HostTree, IsHostTree, IsMade, directory_row, kind_in}
+use Rattle.copy_row.proofs.host_folder_lemmas.Inserts.{here, other}
+use Rattle.copy_row.specs.copy_laws.declared.copied.Totals.{Totals}
+use Rattle.copy_row.specs.copy_laws.Ends.{text_size, up_to}
+use Rattle.copy_row.specs.copy_laws.Exporting.{IsBare, IsFrontRow, IsPartOf, OnTold, sum_in, totals_in}
+use Rattle.copy_row.specs.copy_laws.Walks.{Met, Todo, todo_in, AreLess, IsWalk}
+use Rattle.copy_row.proofs.copy_laws_lemmas.Ending.{of_find, walk_done}
+use Rattle.copy_row.proofs.copy_laws_lemmas.Walking.{walk_more, found_left}
+use Rattle.copy_row.specs.Reads.{IsRowOut, IsRowPart, with_row}
+use Rattle.copy_row.specs.Rows.{none_copied}
 use Rattle.tree_copy.specs.Exports.{IsFar, SaysKids}
 use Rattle.tree_copy.proofs.Places.{never_root, no_kids, short_push, first_walk}
 

@@ -10,21 +10,21 @@ use Rattle.fs_model.specs.declared.command.Command.{Command}
 use Rattle.fs_model.specs.declared.limits.TheConstants.{MAX_PATH_TEXT}
 use Rattle.fs_model.specs.declared.reply.Reply.TheVariants.{Error}
 use Rattle.fs_model.specs.Tree.{path_cmp, name_cmp}
-use Rattle.row_copy.specs.host_folder.Folders.{HostRow, HostPath, HostTree, IsHostTree, directory_row, kind_in}
-use Rattle.row_copy.specs.copy_rules.declared.copied.Totals.{Totals}
-use Rattle.row_copy.specs.copy_rules.declared.copied.CopyFail.{CopyFail}
-use Rattle.row_copy.specs.copy_rules.declared.copied.CopyFail.TheVariants as fail
-use Rattle.row_copy.specs.copy_rules.Ends.{AreShort, FailsBy, IsFront, IsLong, text_size, counted}
-use Rattle.row_copy.specs.copy_rules.Importing.{commands_in, commands_for, import_commands}
-use Rattle.row_copy.specs.copy_rules.Questions.{Question, Asking, LawfulAsker, Asked, AreDone, commands_of}
-use Rattle.row_copy.specs.copy_rules.Walks.{Met, Todo, todo_in, AreLess, IsPlain, IsWalk, IsRowAt, Covers}
-use Rattle.row_copy.proofs.copy_rules_lemmas.Asking.{asked_none, asked_then, answered_done, done_append, last_append, counted_then, counted_all, commands_append}
-use Rattle.row_copy.proofs.copy_rules_lemmas.Cutting.{rows_append}
-use Rattle.row_copy.proofs.copy_rules_lemmas.Ending.{walk_of, walk_done, walk_next}
-use Rattle.row_copy.proofs.copy_rules_lemmas.Walking.{walk_more, found_left, find_less}
-use Rattle.row_copy.specs.declared.stop.Stop.{Stop}
-use Rattle.row_copy.specs.declared.stop.Stop.TheVariants as stop
-use Rattle.row_copy.specs.Rows.{RowCopied, RowEnds, none_copied}
+use Rattle.copy_row.specs.host_folder.Folders.{HostRow, HostPath, HostTree, IsHostTree, directory_row, kind_in}
+use Rattle.copy_row.specs.copy_laws.declared.copied.Totals.{Totals}
+use Rattle.copy_row.specs.copy_laws.declared.copied.CopyFail.{CopyFail}
+use Rattle.copy_row.specs.copy_laws.declared.copied.CopyFail.TheVariants as fail
+use Rattle.copy_row.specs.copy_laws.Ends.{AreShort, FailsBy, IsFront, IsLong, text_size, counted}
+use Rattle.copy_row.specs.copy_laws.Importing.{commands_in, commands_for, import_commands}
+use Rattle.copy_row.specs.copy_laws.Questions.{Question, Asking, LawfulAsker, Asked, AreDone, commands_of}
+use Rattle.copy_row.specs.copy_laws.Walks.{Met, Todo, todo_in, AreLess, IsPlain, IsWalk, IsRowAt, Covers}
+use Rattle.copy_row.proofs.copy_laws_lemmas.Asking.{asked_none, asked_then, answered_done, done_append, last_append, counted_then, counted_all, commands_append}
+use Rattle.copy_row.proofs.copy_laws_lemmas.Cutting.{rows_append}
+use Rattle.copy_row.proofs.copy_laws_lemmas.Ending.{walk_of, walk_done, walk_next}
+use Rattle.copy_row.proofs.copy_laws_lemmas.Walking.{walk_more, found_left, find_less}
+use Rattle.copy_row.specs.declared.stop.Stop.{Stop}
+use Rattle.copy_row.specs.declared.stop.Stop.TheVariants as stop
+use Rattle.copy_row.specs.Rows.{RowCopied, RowEnds, none_copied}
 use Rattle.tree_copy.specs.Copies.{IsAt, Failed, ImportRun, fail_of}
 
 -- the row at the path that is the next

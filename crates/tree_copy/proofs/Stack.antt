@@ -5,9 +5,9 @@ use Rattle.std.specs.FinMap.{get, find}
 use Rattle.std.specs.declared.option.Option.{Option}
 use Rattle.fs_model.specs.declared.reply.ListRow.{ListRow}
 use Rattle.fs_model.specs.Tree.{name_cmp}
-use Rattle.row_copy.specs.host_folder.Folders.{HostPath, HostTree, AreRowsOf, row_pair, kind_in}
-use Rattle.row_copy.specs.copy_rules.Walks.{todo_in}
-use Rattle.row_copy.specs.declared.place.RowPlace.{RowPlace}
+use Rattle.copy_row.specs.host_folder.Folders.{HostPath, HostTree, AreRowsOf, row_pair, kind_in}
+use Rattle.copy_row.specs.copy_laws.Walks.{todo_in}
+use Rattle.copy_row.specs.declared.place.RowPlace.{RowPlace}
 use Rattle.tree_copy.specs.declared.levels.Level.{Level}
 use Rattle.tree_copy.specs.Levels.{left_of, todo_of, HasTargets, IsDeeper, IsStep, IsTaken}
 

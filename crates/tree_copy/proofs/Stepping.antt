@@ -13,21 +13,21 @@ use Rattle.fs_model.specs.declared.limits.TheConstants.{MAX_PATH_TEXT}
 use Rattle.fs_model.specs.declared.reply.ListRow.{ListRow}
 use Rattle.fs_model.specs.Tree.{name_cmp}
 use Rattle.fs_model.proofs.TreeLemmas.{name_total}
-use Rattle.row_copy.specs.host_folder.Folders.{HostRow, HostPath, HostTree, IsHostTree, AreRowsOf, kind_in, row_pair}
-use Rattle.row_copy.specs.copy_rules.declared.copied.Totals.{Totals}
-use Rattle.row_copy.specs.copy_rules.declared.copied.CopyFail.{CopyFail}
-use Rattle.row_copy.specs.copy_rules.declared.copied.CopyFail.TheVariants as fail
-use Rattle.row_copy.specs.copy_rules.Ends.{AreShort, HostCause, text_size}
-use Rattle.row_copy.specs.copy_rules.Exporting.{AreServed, FailsOut, HasRows, IsBare, IsIdleBy, totals_in}
-use Rattle.row_copy.specs.copy_rules.Questions.{Question, Asking, LawfulAsker, Asked}
-use Rattle.row_copy.proofs.copy_rules_lemmas.Asking.{asked_none}
-use Rattle.row_copy.proofs.copy_rules_lemmas.Walking.{above}
-use Rattle.row_copy.specs.copy_rules.Walks.{todo_in}
-use Rattle.row_copy.specs.declared.stop.Stop.{Stop}
-use Rattle.row_copy.specs.declared.stop.Stop.TheVariants as stop
-use Rattle.row_copy.specs.Reads.{ReadEnds, Reads, RowOut, SaysRows}
-use Rattle.row_copy.specs.Rows.{NeverHost, none_copied}
-use Rattle.row_copy.proofs.Served.{ends_error, ends_then, served_append, tells_front, tells_rest, asked_more}
+use Rattle.copy_row.specs.host_folder.Folders.{HostRow, HostPath, HostTree, IsHostTree, AreRowsOf, kind_in, row_pair}
+use Rattle.copy_row.specs.copy_laws.declared.copied.Totals.{Totals}
+use Rattle.copy_row.specs.copy_laws.declared.copied.CopyFail.{CopyFail}
+use Rattle.copy_row.specs.copy_laws.declared.copied.CopyFail.TheVariants as fail
+use Rattle.copy_row.specs.copy_laws.Ends.{AreShort, HostCause, text_size}
+use Rattle.copy_row.specs.copy_laws.Exporting.{AreServed, FailsOut, HasRows, IsBare, IsIdleBy, totals_in}
+use Rattle.copy_row.specs.copy_laws.Questions.{Question, Asking, LawfulAsker, Asked}
+use Rattle.copy_row.proofs.copy_laws_lemmas.Asking.{asked_none}
+use Rattle.copy_row.proofs.copy_laws_lemmas.Walking.{above}
+use Rattle.copy_row.specs.copy_laws.Walks.{todo_in}
+use Rattle.copy_row.specs.declared.stop.Stop.{Stop}
+use Rattle.copy_row.specs.declared.stop.Stop.TheVariants as stop
+use Rattle.copy_row.specs.Reads.{ReadEnds, Reads, RowOut, SaysRows}
+use Rattle.copy_row.specs.Rows.{NeverHost, none_copied}
+use Rattle.copy_row.proofs.Served.{ends_error, ends_then, served_append, tells_front, tells_rest, asked_more}
 use Rattle.tree_copy.specs.declared.levels.Level.{Level}
 use Rattle.tree_copy.specs.Copies.{fail_of}
 use Rattle.tree_copy.specs.Exports.{ExportRun, FailedOut, IsFar, IsOutAt, OutRun, SaysKids, TreeEntered}

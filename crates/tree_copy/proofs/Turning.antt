@@ -11,17 +11,17 @@ use Rattle.outside.specs.declared.vault.GetFail.TheVariants.{Memory, Failed}
 use Rattle.fs_model.specs.declared.attr.Kind.{Kind}
 use Rattle.fs_model.specs.declared.attr.Kind.TheVariants.{Directory}
 use Rattle.fs_model.specs.Tree.{name_cmp, path_cmp}
-use Rattle.row_copy.specs.host_folder.Folders.{HostRow, HostPath, HostTree, IsHostTree, kind_in}
-use Rattle.row_copy.specs.copy_rules.declared.copied.Totals.{Totals}
-use Rattle.row_copy.specs.copy_rules.declared.copied.CopyFail.{CopyFail}
-use Rattle.row_copy.specs.copy_rules.declared.copied.CopyFail.TheVariants as fail
-use Rattle.row_copy.specs.copy_rules.Ends.{HostCause, StopCause, text_size}
-use Rattle.row_copy.specs.copy_rules.Questions.{Asking, LawfulAsker}
-use Rattle.row_copy.specs.copy_rules.Walks.{Todo, todo_in, HasKinds}
-use Rattle.row_copy.proofs.copy_rules_lemmas.Asking.{asked_none}
-use Rattle.row_copy.specs.declared.stop.Stop.{Stop}
-use Rattle.row_copy.specs.declared.stop.Stop.TheVariants as stop
-use Rattle.row_copy.specs.Rows.{RowCopied, FaultsBy, StopsBy, IsPlaced, none_copied}
+use Rattle.copy_row.specs.host_folder.Folders.{HostRow, HostPath, HostTree, IsHostTree, kind_in}
+use Rattle.copy_row.specs.copy_laws.declared.copied.Totals.{Totals}
+use Rattle.copy_row.specs.copy_laws.declared.copied.CopyFail.{CopyFail}
+use Rattle.copy_row.specs.copy_laws.declared.copied.CopyFail.TheVariants as fail
+use Rattle.copy_row.specs.copy_laws.Ends.{HostCause, StopCause, text_size}
+use Rattle.copy_row.specs.copy_laws.Questions.{Asking, LawfulAsker}
+use Rattle.copy_row.specs.copy_laws.Walks.{Todo, todo_in, HasKinds}
+use Rattle.copy_row.proofs.copy_laws_lemmas.Asking.{asked_none}
+use Rattle.copy_row.specs.declared.stop.Stop.{Stop}
+use Rattle.copy_row.specs.declared.stop.Stop.TheVariants as stop
+use Rattle.copy_row.specs.Rows.{RowCopied, FaultsBy, StopsBy, IsPlaced, none_copied}
 use Rattle.tree_copy.specs.declared.levels.Level.{Level}
 use Rattle.tree_copy.specs.Copies.{IsAt, Failed as HasFailed, StepEnds, fail_of}
 use Rattle.tree_copy.specs.Levels.{left_of, todo_of, HasTargets, AreKnown, IsEntered}

@@ -5,18 +5,18 @@ use Rattle.std.specs.declared.option.Option.{Option}
 use Rattle.std.specs.declared.result.Result.{Result}
 use Rattle.std.specs.declared.result.Result.TheVariants.{Ok, Err}
 use Rattle.fs_model.specs.Tree.{path_cmp}
-use Rattle.row_copy.specs.host_folder.Folders.{HostPath, HostTree}
-use Rattle.row_copy.specs.copy_rules.declared.copied.Totals.{Totals}
-use Rattle.row_copy.specs.copy_rules.declared.copied.CopyFail.{CopyFail}
-use Rattle.row_copy.specs.copy_rules.declared.copied.CopyFail.TheVariants as fail
-use Rattle.row_copy.specs.copy_rules.Ends.{AreShort, FailsBy, IsImport, counted}
-use Rattle.row_copy.specs.copy_rules.Importing.{commands_in, ArePlain}
-use Rattle.row_copy.specs.copy_rules.Questions.{Question, Asking, Asked, AreDone, commands_of}
-use Rattle.row_copy.specs.copy_rules.Walks.{Met, Todo, IsWalk}
-use Rattle.row_copy.specs.declared.place.RowPlace.{RowPlace}
-use Rattle.row_copy.specs.declared.stop.Stop.{Stop}
-use Rattle.row_copy.specs.declared.stop.Stop.TheVariants as stop
-use Rattle.row_copy.specs.Rows.{none_copied}
+use Rattle.copy_row.specs.host_folder.Folders.{HostPath, HostTree}
+use Rattle.copy_row.specs.copy_laws.declared.copied.Totals.{Totals}
+use Rattle.copy_row.specs.copy_laws.declared.copied.CopyFail.{CopyFail}
+use Rattle.copy_row.specs.copy_laws.declared.copied.CopyFail.TheVariants as fail
+use Rattle.copy_row.specs.copy_laws.Ends.{AreShort, FailsBy, IsImport, counted}
+use Rattle.copy_row.specs.copy_laws.Importing.{commands_in, ArePlain}
+use Rattle.copy_row.specs.copy_laws.Questions.{Question, Asking, Asked, AreDone, commands_of}
+use Rattle.copy_row.specs.copy_laws.Walks.{Met, Todo, IsWalk}
+use Rattle.copy_row.specs.declared.place.RowPlace.{RowPlace}
+use Rattle.copy_row.specs.declared.stop.Stop.{Stop}
+use Rattle.copy_row.specs.declared.stop.Stop.TheVariants as stop
+use Rattle.copy_row.specs.Rows.{none_copied}
 use Rattle.tree_copy.specs.declared.levels.Level.{Level}
 use Rattle.tree_copy.specs.Levels.{todo_of, Goes, HasTargets}
 

@@ -7,16 +7,16 @@ use Rattle.std.specs.declared.result.Result.{Result}
 use Rattle.std.specs.declared.result.Result.TheVariants.{Ok, Err}
 use Rattle.fs_model.specs.declared.attr.Kind.{Kind}
 use Rattle.fs_model.specs.Tree.{name_cmp, path_cmp}
-use Rattle.row_copy.specs.host_folder.Folders.{HostPath, HostTree, kind_in}
-use Rattle.row_copy.specs.copy_rules.declared.copied.Totals.{Totals}
-use Rattle.row_copy.specs.copy_rules.declared.copied.CopyFail.{CopyFail}
-use Rattle.row_copy.specs.copy_rules.Ends.{AreShort}
-use Rattle.row_copy.specs.copy_rules.Exporting.{AreServed, EndsOut, FailsOut, IsBare, HasRows, IsExport, IsPartOf, OfEach, OnTold, Tells, totals_in}
-use Rattle.row_copy.specs.copy_rules.Questions.{Question, Asking, Asked}
-use Rattle.row_copy.specs.copy_rules.Walks.{Met, Todo, IsWalk}
-use Rattle.row_copy.specs.declared.place.RowPlace.{RowPlace}
-use Rattle.row_copy.specs.declared.stop.Stop.{Stop}
-use Rattle.row_copy.specs.Reads.{ReadEnds}
+use Rattle.copy_row.specs.host_folder.Folders.{HostPath, HostTree, kind_in}
+use Rattle.copy_row.specs.copy_laws.declared.copied.Totals.{Totals}
+use Rattle.copy_row.specs.copy_laws.declared.copied.CopyFail.{CopyFail}
+use Rattle.copy_row.specs.copy_laws.Ends.{AreShort}
+use Rattle.copy_row.specs.copy_laws.Exporting.{AreServed, EndsOut, FailsOut, IsBare, HasRows, IsExport, IsPartOf, OfEach, OnTold, Tells, totals_in}
+use Rattle.copy_row.specs.copy_laws.Questions.{Question, Asking, Asked}
+use Rattle.copy_row.specs.copy_laws.Walks.{Met, Todo, IsWalk}
+use Rattle.copy_row.specs.declared.place.RowPlace.{RowPlace}
+use Rattle.copy_row.specs.declared.stop.Stop.{Stop}
+use Rattle.copy_row.specs.Reads.{ReadEnds}
 use Rattle.tree_copy.specs.declared.levels.Level.{Level}
 use Rattle.tree_copy.specs.Copies.{fail_of}
 use Rattle.tree_copy.specs.Levels.{left_of, todo_of, Goes, HasTargets}

@@ -7,10 +7,10 @@ use Rattle.std.specs.declared.result.Result.{Result}
 use Rattle.std.specs.declared.result.Result.TheVariants.{Ok, Err}
 use Rattle.fs_model.specs.declared.attr.Kind.{Kind}
 use Rattle.fs_model.specs.Tree.{name_cmp}
-use Rattle.row_copy.specs.host_folder.Folders.{HostPath, HostTree, IsHostTree, kind_in, row_pair}
-use Rattle.row_copy.specs.copy_rules.Walks.{Todo, todo_in, HasKinds}
-use Rattle.row_copy.specs.copy_rules.declared.copied.CopyFail.{CopyFail}
-use Rattle.row_copy.specs.declared.place.RowPlace.{RowPlace}
+use Rattle.copy_row.specs.host_folder.Folders.{HostPath, HostTree, IsHostTree, kind_in, row_pair}
+use Rattle.copy_row.specs.copy_laws.Walks.{Todo, todo_in, HasKinds}
+use Rattle.copy_row.specs.copy_laws.declared.copied.CopyFail.{CopyFail}
+use Rattle.copy_row.specs.declared.place.RowPlace.{RowPlace}
 use Rattle.tree_copy.specs.declared.levels.Level.{Level}
 
 -- the rows that are left

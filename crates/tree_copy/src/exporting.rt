@@ -1,18 +1,18 @@
 // A tree, copied into a folder of the host.
 ghost use Rattle.std.specs.Prelude.{◌≡◌, IfOk, IfSome};
 ghost use Rattle.outside.specs.Causes.{GetHasCause};
-ghost use Rattle.row_copy.specs.host_folder.Folders.{IsHostTree};
-ghost use Rattle.row_copy.specs.copy_rules.Ends.{HostCause, StopCause};
-ghost use Rattle.row_copy.specs.copy_rules.Exporting.{IsBare};
+ghost use Rattle.copy_row.specs.host_folder.Folders.{IsHostTree};
+ghost use Rattle.copy_row.specs.copy_laws.Ends.{HostCause, StopCause};
+ghost use Rattle.copy_row.specs.copy_laws.Exporting.{IsBare};
 ghost use Rattle.tree_copy.specs.Exports.{BareIs, ExportRun, OutRun};
 
 use crate::out_steps::{begin_tree, export_next};
 use block_id::Memory;
+use copy_row::copy_laws::{Asker, CopyFail, Totals};
+use copy_row::host_folder::Folder;
+use copy_row::{copy_path, no_totals};
 use fs_model::{FsError, Path};
 use outside::GetFail;
-use row_copy::copy_rules::{Asker, CopyFail, Totals};
-use row_copy::host_folder::Folder;
-use row_copy::{copy_path, no_totals};
 use std::alloc::Global;
 
 /// Whether the folder has no rows.

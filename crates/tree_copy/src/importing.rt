@@ -1,15 +1,15 @@
 // A folder of the host, copied into a tree.
 ghost use Rattle.std.specs.Prelude.{◌≡◌};
-ghost use Rattle.row_copy.specs.copy_rules.Ends.{HostCause, StopCause};
+ghost use Rattle.copy_row.specs.copy_laws.Ends.{HostCause, StopCause};
 ghost use Rattle.tree_copy.specs.Copies.{ImportRun};
 
 use crate::levels::enter;
 use crate::steps::copy_next;
+use copy_row::copy_laws::{Asker, CopyFail, Totals};
+use copy_row::host_folder::Folder;
+use copy_row::no_totals;
 use fs_model::Path;
 use outside::GetFail;
-use row_copy::copy_rules::{Asker, CopyFail, Totals};
-use row_copy::host_folder::Folder;
-use row_copy::no_totals;
 use std::alloc::Global;
 
 /// Copies the rows of the folder's root and what is below them to below this path. Nothing is asked for a folder

@@ -1,17 +1,17 @@
 // The directories that a copy is in.
 ghost use Rattle.std.specs.Prelude.{◌≡◌, IfOk, IfSome, OnOk};
 ghost use Rattle.outside.specs.Causes.{GetHasCause};
-ghost use Rattle.row_copy.specs.host_folder.Folders.{IsHostTree};
-ghost use Rattle.row_copy.specs.Rows.{StopsBy, NeverHost};
+ghost use Rattle.copy_row.specs.host_folder.Folders.{IsHostTree};
+ghost use Rattle.copy_row.specs.Rows.{StopsBy, NeverHost};
 ghost use Rattle.tree_copy.specs.Exports.{TreeEntered};
 ghost use Rattle.tree_copy.specs.Levels.{IsEntered, NextIs};
 
 use block_id::Memory;
+use copy_row::copy_laws::Asker;
+use copy_row::host_folder::Folder;
+use copy_row::{RowPlace, Stop, ask_rows, child_of, copy_path};
 use fs_model::{Path, RowList};
 use outside::GetFail;
-use row_copy::copy_rules::Asker;
-use row_copy::host_folder::Folder;
-use row_copy::{RowPlace, Stop, ask_rows, child_of, copy_path};
 use std::alloc::Global;
 
 /// A directory whose rows are copied: from this one on.

@@ -11,4 +11,4 @@ pub use exporting::export;
 pub use importing::import;
 
 // Handed on to crates above, which needn't list them.
-pub use row_copy::{copy_rules, host_folder};
+pub use copy_row::{copy_laws, host_folder};

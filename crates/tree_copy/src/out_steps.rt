@@ -1,16 +1,16 @@
 // One row more of an export.
 ghost use Rattle.std.specs.Prelude.{◌≡◌, ℕ, OnOk};
-ghost use Rattle.row_copy.specs.copy_rules.Ends.{HostCause, StopCause};
+ghost use Rattle.copy_row.specs.copy_laws.Ends.{HostCause, StopCause};
 ghost use Rattle.tree_copy.specs.Exports.{StepsOut, StepsOutAt, TreeBegun};
 ghost use Rattle.tree_copy.specs.Levels.{IsDeeper};
 
 use crate::levels::{Level, enter_tree, next_row};
 use crate::steps::fail_at;
 use block_id::Memory;
+use copy_row::copy_laws::{Asker, CopyFail, Totals};
+use copy_row::host_folder::Folder;
+use copy_row::{RowPlace, is_short, row_out};
 use fs_model::{Kind, Path};
-use row_copy::copy_rules::{Asker, CopyFail, Totals};
-use row_copy::host_folder::Folder;
-use row_copy::{RowPlace, is_short, row_out};
 use std::alloc::Global;
 
 /// Begins the directory of the tree: its rows are to be copied.

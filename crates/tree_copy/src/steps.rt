@@ -1,17 +1,17 @@
 // One row more of a copy.
 ghost use Rattle.std.specs.Prelude.{◌≡◌, IfSome, OnOk};
-ghost use Rattle.row_copy.specs.copy_rules.Ends.{HostCause, StopCause};
-ghost use Rattle.row_copy.specs.Rows.{IsPlaced};
+ghost use Rattle.copy_row.specs.copy_laws.Ends.{HostCause, StopCause};
+ghost use Rattle.copy_row.specs.Rows.{IsPlaced};
 ghost use Rattle.tree_copy.specs.Levels.{AreKnown, IsDeeper};
 ghost use Rattle.tree_copy.specs.Copies.{Steps, StepsAt, fail_of};
 
 use crate::levels::{Level, enter, next_row};
 use block_id::Memory;
+use copy_row::copy_laws::{Asker, CopyFail, Totals};
+use copy_row::host_folder::Folder;
+use copy_row::{RowPlace, Stop, copy_row, is_short};
 use fs_model::{Kind, Path};
 use outside::GetFail;
-use row_copy::copy_rules::{Asker, CopyFail, Totals};
-use row_copy::host_folder::Folder;
-use row_copy::{RowPlace, Stop, copy_row, is_short};
 use std::alloc::Global;
 
 pub fn fail_at(stop: Stop, path: Path) -> CopyFail

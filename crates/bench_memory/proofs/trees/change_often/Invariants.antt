@@ -1,4 +1,4 @@
-use Rattle.map_store.specs.store_api.Txs.{tx_meanings}
+use Rattle.memory_stores.specs.store_api.Txs.{tx_meanings}
 use Rattle.bench_memory.proofs.trees.change_often.Given as goal
 
 abbrev pub invariant-loop-call : goal.invariant-loop-call

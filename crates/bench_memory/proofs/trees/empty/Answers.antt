@@ -3,7 +3,7 @@ use Rattle.std.specs.Prelude.{Option}
 use Rattle.std.specs.FinMap as fin
 use Rattle.std.specs.FinMap.{len-empty, len-entries}
 use Rattle.std.proofs.lemmas.List.{length-map}
-use Rattle.map_store.specs.store_api.Content.{id_cmp, Changes}
+use Rattle.memory_stores.specs.store_api.Content.{id_cmp, Changes}
 use Rattle.bench_memory.proofs.trees.empty.Goals as goal
 
 pub new-requires-2-clause-few : goal.new-requires-2-clause-few

@@ -1,4 +1,4 @@
-use Rattle.map_store.specs.store_api.Txs.{tx_meanings}
+use Rattle.memory_stores.specs.store_api.Txs.{tx_meanings}
 use Rattle.bench_memory.proofs.trees.read_all.Given as goal
 
 abbrev pub invariant-loop-piece : goal.invariant-loop-piece

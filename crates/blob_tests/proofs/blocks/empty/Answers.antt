@@ -3,7 +3,7 @@ use Rattle.std.proofs.lemmas.List.{length-map}
 use Rattle.std.specs.Prelude.{Option}
 use Rattle.std.specs.FinMap as fin
 use Rattle.std.specs.FinMap.{len-entries, len-empty}
-use Rattle.map_store.specs.store_api.Content.{Changes, id_cmp}
+use Rattle.memory_stores.specs.store_api.Content.{Changes, id_cmp}
 use Rattle.blob_tests.proofs.blocks.empty.Goals as goal
 
 pub new-requires-2-clause-few : goal.new-requires-2-clause-few

@@ -1,5 +1,5 @@
 use Rattle.std.proofs.Common.{◌<◌}
-use Rattle.map_store.specs.store_api.Txs.{tx_meanings}
+use Rattle.memory_stores.specs.store_api.Txs.{tx_meanings}
 use Rattle.blob_tests.proofs.trees.+shape.Given as goal
 
 abbrev pub decreases-shape_below : goal.decreases-shape_below

@@ -1,6 +1,6 @@
 use Rattle.std.proofs.Common.{sym, refl, ◌∙◌, ap, inl, inr, Some, None}
 use Rattle.block_cache.specs.Payloads.{with_payload, cached_for}
-use Rattle.block_batch.specs.Entries.{change_view}
+use Rattle.store_api.specs.Entries.{change_view}
 use Rattle.block_cache.proofs.Puts.{was_put}
 use Rattle.block_cache.proofs.Lookups.{cached-absent, cached-replaced, cached-removed}
 use Rattle.block_cache.proofs.Renewing.{renewed_as}

@@ -1,5 +1,5 @@
 use Rattle.std.proofs.Common.{◌+◌, drop, subst}
-use Rattle.block_batch.specs.Entries.{entries_of, entry_view}
+use Rattle.store_api.specs.Entries.{entries_of, entry_view}
 use Rattle.store_api.proofs.Rising.{turn}
 use Rattle.block_cache.proofs.Renewing.{Renewing, renewing-start, renewing-step}
 use Rattle.block_cache.proofs.payloads.renew_all.Goals as goal

@@ -1,5 +1,5 @@
 use Rattle.std.proofs.Common.{drop}
-use Rattle.block_batch.specs.Entries.{entries_of}
+use Rattle.store_api.specs.Entries.{entries_of}
 use Rattle.block_cache.proofs.Renewing.{Renewing}
 use Rattle.block_cache.proofs.payloads.renew_all.Given as goal
 

@@ -1,5 +1,5 @@
 use Rattle.std.proofs.Common.{refl, ap, ◌∙◌}
-use Rattle.given_reads.specs.data_nodes.Layout.{ids_of}
+use Rattle.check_walk.specs.data_nodes.Layout.{ids_of}
 use Rattle.check_runs.proofs.Judging.{judged_none, judged_all}
 use Rattle.check_runs.proofs.examining.judge.Goals as goal
 

@@ -1,7 +1,7 @@
 use Rattle.std.proofs.Common.{refl, inl, inr, sym, subst}
 use Rattle.check_texts.specs.line_io.Reading.{coming}
 use Rattle.check_texts.specs.line_io.Streams.{stream_of}
-use Rattle.cryfs_setup.proofs.Beginning.{held, has_password, unread_causes}
+use Rattle.setup_runs.proofs.Beginning.{held, has_password, unread_causes}
 use Rattle.check_runs.specs.SurveyRuns.{SurveyedUnder}
 use Rattle.check_runs.proofs.survey_run.run_survey.Goals as goal
 

@@ -1,5 +1,5 @@
 use Rattle.std.proofs.Common.{ap, ◌∙◌}
-use Rattle.given_reads.specs.data_nodes.Layout.{ids_of}
+use Rattle.check_walk.specs.data_nodes.Layout.{ids_of}
 use Rattle.check_runs.proofs.Looking.{surveyed_none, surveyed_all}
 use Rattle.check_runs.proofs.surveying.survey_live.Goals as goal
 

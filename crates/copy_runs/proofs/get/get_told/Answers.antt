@@ -1,8 +1,8 @@
 use Rattle.std.proofs.Common.{subst}
-use Rattle.file_copies.specs.line_io.Streams.{stream_of}
-use Rattle.file_copies.specs.copy_sessions.Fitting.{WentBy}
-use Rattle.file_copies.proofs.Sessions.{get_session}
-use Rattle.shell_sessions.specs.Mounting.{mounted_hosting}
+use Rattle.copy_file.specs.line_io.Streams.{stream_of}
+use Rattle.copy_file.specs.copy_sessions.Fitting.{WentBy}
+use Rattle.copy_file.proofs.Sessions.{get_session}
+use Rattle.shell_runs.specs.Mounting.{mounted_hosting}
 use Rattle.copy_runs.proofs.Files.{get_own}
 use Rattle.copy_runs.proofs.get.get_told.Goals as goal
 

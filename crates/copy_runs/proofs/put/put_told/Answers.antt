@@ -1,9 +1,9 @@
 use Rattle.std.proofs.Common.{subst}
-use Rattle.file_copies.specs.line_io.Reading.{coming}
-use Rattle.file_copies.specs.line_io.Streams.{stream_of}
-use Rattle.file_copies.specs.copy_sessions.Fitting.{WentBy}
-use Rattle.file_copies.proofs.Sessions.{put_session}
-use Rattle.shell_sessions.specs.Mounting.{mounted_hosting}
+use Rattle.copy_file.specs.line_io.Reading.{coming}
+use Rattle.copy_file.specs.line_io.Streams.{stream_of}
+use Rattle.copy_file.specs.copy_sessions.Fitting.{WentBy}
+use Rattle.copy_file.proofs.Sessions.{put_session}
+use Rattle.shell_runs.specs.Mounting.{mounted_hosting}
 use Rattle.copy_runs.proofs.Files.{put_own}
 use Rattle.copy_runs.proofs.put.put_told.Goals as goal
 

@@ -1,12 +1,12 @@
 use Rattle.std.proofs.Common.{refl, rules}
-use Rattle.file_copies.specs.line_io.Reading.{coming}
-use Rattle.file_copies.specs.line_io.Streams.{stream_of}
-use Rattle.shell_sessions.proofs.session_runs_lemmas.Drawing.{draws_nothing}
-use Rattle.shell_sessions.specs.session_runs.Drawing.{DrawsVectors}
-use Rattle.shell_sessions.specs.session_runs.Runs.{outside_of}
-use Rattle.shell_sessions.proofs.Ending.{has_password, halted, draws_served}
-use Rattle.file_copies.specs.Coming.{ComesPut}
-use Rattle.file_copies.proofs.Sessions.{put_from_start}
+use Rattle.copy_file.specs.line_io.Reading.{coming}
+use Rattle.copy_file.specs.line_io.Streams.{stream_of}
+use Rattle.shell_runs.proofs.session_laws_lemmas.Drawing.{draws_nothing}
+use Rattle.shell_runs.specs.session_laws.Drawing.{DrawsVectors}
+use Rattle.shell_runs.specs.session_laws.Runs.{outside_of}
+use Rattle.shell_runs.proofs.Ending.{has_password, halted, draws_served}
+use Rattle.copy_file.specs.Coming.{ComesPut}
+use Rattle.copy_file.proofs.Sessions.{put_from_start}
 use Rattle.copy_runs.proofs.Serving.{was_served, served}
 use Rattle.copy_runs.proofs.put.run_put.Goals as goal
 

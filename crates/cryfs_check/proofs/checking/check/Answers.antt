@@ -3,14 +3,14 @@ use Rattle.std.specs.Prelude.{T, Result, IfOk}
 use Rattle.std.specs.FinMap.{is_sorted}
 use Rattle.block_id.specs.declared.fail.Fail.{Fail}
 use Rattle.block_id.specs.declared.id.BlockId.{BlockId}
-use Rattle.check_rules.specs.outcome.Outcome.{Outcome}
+use Rattle.check_rules.specs.store_outcome.Outcome.{Outcome}
 use Rattle.check_rules.specs.store_api.Content.{Id, id_cmp}
 use Rattle.check_rules.specs.data_nodes.Layout.{ids_of}
 use Rattle.fs_model.specs.Tree.{Path}
-use Rattle.check_rules.specs.block_walk.declared.flaw.Flaw.TheVariants.{Unowned}
-use Rattle.check_rules.specs.block_walk.Given.{IsLoad}
-use Rattle.check_rules.specs.block_walk.Marks.{MarkList, owner_of}
-use Rattle.check_rules.proofs.block_walk_lemmas.Loading.{gave_by}
+use Rattle.check_rules.specs.check_walk.declared.flaw.Flaw.TheVariants.{Unowned}
+use Rattle.check_rules.specs.check_walk.Given.{IsLoad}
+use Rattle.check_rules.specs.check_walk.Marks.{MarkList, owner_of}
+use Rattle.check_rules.proofs.check_walk_lemmas.Loading.{gave_by}
 use Rattle.check_rules.specs.Certificates.{Certifies}
 use Rattle.cryfs_check.specs.declared.checking.Checked.{Checked}
 use Rattle.cryfs_check.specs.Checks.{ShowsSome, IsYes, OnNo, IsRefuted}

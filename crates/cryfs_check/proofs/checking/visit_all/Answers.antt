@@ -2,9 +2,9 @@ use Rattle.std.proofs.Common.{◌≡◌, List, sym, subst}
 use Rattle.std.specs.Prelude.{Some, None}
 use Rattle.std.specs.List.{slice_get}
 use Rattle.std.specs.Option.{option_map}
-use Rattle.check_rules.specs.outcome.Outcome.{idle, then_}
+use Rattle.check_rules.specs.store_outcome.Outcome.{idle, then_}
 use Rattle.check_rules.proofs.data_tree_lemmas.Forests.{stays-same, stays-then}
-use Rattle.check_rules.specs.block_walk.Given.{IsLoad}
+use Rattle.check_rules.specs.check_walk.Given.{IsLoad}
 use Rattle.cryfs_check.specs.declared.place.Place.{Place}
 use Rattle.cryfs_check.specs.Places.{places_text, sites_of, site_needs, visit_needs}
 use Rattle.cryfs_check.specs.Visits.{IsVisited, Visited}

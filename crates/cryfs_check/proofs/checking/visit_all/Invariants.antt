@@ -1,7 +1,7 @@
 use Rattle.std.specs.Prelude.{Ok}
-use Rattle.check_rules.specs.outcome.Outcome.{Outcome}
+use Rattle.check_rules.specs.store_outcome.Outcome.{Outcome}
 use Rattle.check_rules.specs.store_api.Holdings.{Stays}
-use Rattle.check_rules.specs.block_walk.Given.{IsLoad}
+use Rattle.check_rules.specs.check_walk.Given.{IsLoad}
 use Rattle.cryfs_check.specs.Places.{places_text}
 use Rattle.cryfs_check.specs.Visits.{Visited}
 use Rattle.cryfs_check.proofs.checking.visit_all.Given as goal

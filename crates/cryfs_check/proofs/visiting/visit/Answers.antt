@@ -1,15 +1,15 @@
 use Rattle.std.proofs.Common.{◌≡◌, ◌+◌, ◌-◌, [], ◌++◌, ℕ, length, take, drop, sym, ◌∙◌, ap, subst, refl, arith}
 use Rattle.std.specs.Prelude.{IfSome, IfNone}
 use Rattle.std.proofs.lemmas.List.{length-append, take_all}
-use Rattle.check_rules.specs.block_walk.declared.flaw.Flaw.{Flaw}
-use Rattle.check_rules.specs.block_walk.declared.flaw.Flaw.TheVariants.{BadNode, BadBlob, Parent, Twice, NotLive, Unowned}
-use Rattle.check_rules.specs.block_walk.Fronts.{FrontState}
-use Rattle.check_rules.specs.block_walk.Given.{IsLoad}
-use Rattle.check_rules.specs.block_walk.Halts.{FlawAt}
-use Rattle.check_rules.specs.block_walk.Marks.{MarkList}
-use Rattle.check_rules.specs.block_walk.Needs.{top, Leads}
-use Rattle.check_rules.specs.block_walk.Walks.{Walked}
-use Rattle.check_rules.proofs.block_walk_lemmas.Halting.{halted_as}
+use Rattle.check_rules.specs.check_walk.declared.flaw.Flaw.{Flaw}
+use Rattle.check_rules.specs.check_walk.declared.flaw.Flaw.TheVariants.{BadNode, BadBlob, Parent, Twice, NotLive, Unowned}
+use Rattle.check_rules.specs.check_walk.Fronts.{FrontState}
+use Rattle.check_rules.specs.check_walk.Given.{IsLoad}
+use Rattle.check_rules.specs.check_walk.Halts.{FlawAt}
+use Rattle.check_rules.specs.check_walk.Marks.{MarkList}
+use Rattle.check_rules.specs.check_walk.Needs.{top, Leads}
+use Rattle.check_rules.specs.check_walk.Walks.{Walked}
+use Rattle.check_rules.proofs.check_walk_lemmas.Halting.{halted_as}
 use Rattle.check_rules.specs.data_tree.Stored.{BlobTree}
 use Rattle.check_rules.specs.dir_entries.Layout.{Listing, listing_of}
 use Rattle.check_rules.specs.fs_blobs.Headers.{header_text, blob, BeginsWith}

@@ -1,7 +1,7 @@
 use Rattle.std.proofs.Common.{map, sym, ◌∙◌}
 use Rattle.std.specs.String.{string_bytes}
 use Rattle.copy_runs.specs.copy_sessions.Coming.{ComesExport}
-use Rattle.plain_trials.specs.line_io.Streams.{stream_of}
+use Rattle.trial_runs.specs.line_io.Streams.{stream_of}
 use Rattle.cryfs_shell.specs.Copies.{Exports}
 use Rattle.cryfs_shell.specs.Hosts.{host_of}
 use Rattle.cryfs_shell.proofs.Copies.{host_session}

@@ -1,7 +1,7 @@
 use Rattle.std.proofs.Common.{map, sym, ◌∙◌}
 use Rattle.std.specs.String.{string_bytes}
-use Rattle.copy_runs.specs.file_copies.Coming.{ComesGet}
-use Rattle.plain_trials.specs.line_io.Streams.{stream_of}
+use Rattle.copy_runs.specs.copy_file.Coming.{ComesGet}
+use Rattle.trial_runs.specs.line_io.Streams.{stream_of}
 use Rattle.cryfs_shell.specs.Copies.{Gets}
 use Rattle.cryfs_shell.proofs.Copies.{session_as}
 use Rattle.cryfs_shell.proofs.program.get_words.Goals as goal

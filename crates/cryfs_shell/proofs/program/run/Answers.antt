@@ -1,8 +1,8 @@
 use Rattle.std.proofs.Common.{map, refl, sym, ◌∙◌}
 use Rattle.std.specs.String.{string_bytes}
-use Rattle.plain_trials.specs.line_io.Streams.{stream_of}
+use Rattle.trial_runs.specs.line_io.Streams.{stream_of}
 use Rattle.run_status.specs.declared.status.Status.TheVariants.{Usage, Memory}
-use Rattle.shell_words.specs.Forms.{form_of}
+use Rattle.program_words.specs.Forms.{form_of}
 use Rattle.cryfs_shell.specs.Hosts.{host_of}
 use Rattle.cryfs_shell.specs.Kinds.{is_migration}
 use Rattle.cryfs_shell.specs.Streams.{streams_of}

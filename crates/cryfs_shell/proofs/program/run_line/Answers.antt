@@ -1,8 +1,8 @@
 use Rattle.std.proofs.Common.{ℕ, List, map, subst, ◌∙◌}
 use Rattle.std.specs.String.{string_bytes}
-use Rattle.plain_trials.specs.line_io.Streams.{stream_of}
-use Rattle.copy_runs.specs.shell_sessions.Sessions.{ComesCommand}
-use Rattle.shell_words.specs.Forms.{joined}
+use Rattle.trial_runs.specs.line_io.Streams.{stream_of}
+use Rattle.copy_runs.specs.shell_runs.Sessions.{ComesCommand}
+use Rattle.program_words.specs.Forms.{joined}
 use Rattle.cryfs_shell.proofs.Copies.{session_as}
 use Rattle.cryfs_shell.proofs.program.run_line.Goals as goal
 

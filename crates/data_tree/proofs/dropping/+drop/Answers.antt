@@ -1,7 +1,7 @@
 use Rattle.std.proofs.Common.{ℕ, ◌≡◌, refl, sym, ◌∙◌, ap, drop, get_or, [], ◌+◌, ◌-◌, None, subst, List}
 use Rattle.std.specs.FinMap.{get}
 use Rattle.block_id.specs.declared.id.BlockId.{BlockId}
-use Rattle.store_api.specs.outcome.Outcome.{Outcome, idle, first_, then_, failed_, answered, no_memory}
+use Rattle.store_api.specs.store_outcome.Outcome.{Outcome, idle, first_, then_, failed_, answered, no_memory}
 use Rattle.data_nodes.specs.Layout.{node_of, ids_of, inner}
 use Rattle.data_tree.specs.Needs.{HasTree, Sets}
 use Rattle.data_tree.specs.Trees.{Replaces}

@@ -2,7 +2,7 @@ use Rattle.std.proofs.Common.{◌+◌, ◌*◌, ◌≡◌, true, drop}
 use Rattle.std.specs.Prelude.{Ok, is_some}
 use Rattle.std.specs.FinMap.{get}
 use Rattle.store_api.specs.Content.{Id}
-use Rattle.store_api.specs.outcome.Outcome.{Outcome}
+use Rattle.store_api.specs.store_outcome.Outcome.{Outcome}
 use Rattle.data_nodes.specs.Layout.{ids_of}
 use Rattle.data_tree.specs.Needs.{HasTrees, DropRest}
 use Rattle.store_api.specs.Holdings.{Stays}

@@ -1,6 +1,6 @@
 use Rattle.std.proofs.Common.{◌≡◌, sym, ◌∙◌, ap, subst, [], ◌∷◌, true, false}
 use Rattle.std.specs.Prelude.{is_some}
-use Rattle.store_api.specs.outcome.Outcome.{idle, no_memory, unbuilt}
+use Rattle.store_api.specs.store_outcome.Outcome.{idle, no_memory, unbuilt}
 use Rattle.data_tree.specs.Needs.{HasTree}
 use Rattle.data_tree.specs.Trees.{Replaces}
 use Rattle.store_api.specs.Txs.{store_in, changes_in, drawn_in, tx_holdings, tx_laws}

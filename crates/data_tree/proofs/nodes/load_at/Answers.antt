@@ -1,6 +1,6 @@
 use Rattle.std.proofs.Common.{◌≡◌, ◌∙◌, ap}
 use Rattle.data_nodes.specs.Layout.{node_of}
-use Rattle.store_api.specs.outcome.Outcome.{first_, unbuilt}
+use Rattle.store_api.specs.store_outcome.Outcome.{first_, unbuilt}
 use Rattle.data_tree.specs.Needs.{HasTree}
 use Rattle.data_tree.specs.Trees.{depth_in}
 use Rattle.store_api.specs.Txs.{tx_holdings, tx_laws}

@@ -1,6 +1,6 @@
 use Rattle.std.proofs.Common.{◌≡◌, sym, ◌∙◌, ap}
 use Rattle.outside.specs.View.{bytes_of}
-use Rattle.store_api.specs.outcome.Outcome.{first_, answered, unbuilt}
+use Rattle.store_api.specs.store_outcome.Outcome.{first_, answered, unbuilt}
 use Rattle.store_api.specs.Fronts.{front_of}
 use Rattle.store_api.specs.Txs.{tx_holdings, tx_laws, tx_steady}
 use Rattle.data_tree.specs.Needs.{HasNode}

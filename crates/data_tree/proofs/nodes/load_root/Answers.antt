@@ -1,6 +1,6 @@
 use Rattle.std.proofs.Common.{◌≡◌, sym, ◌∙◌, ap, subst, length, true}
 use Rattle.data_nodes.specs.Layout.{node_of, inner}
-use Rattle.store_api.specs.outcome.Outcome.{answered, passed, unbuilt, sounded_}
+use Rattle.store_api.specs.store_outcome.Outcome.{answered, passed, unbuilt, sounded_}
 use Rattle.data_tree.specs.Needs.{HasNode}
 use Rattle.data_tree.specs.Roots.{IsRoot}
 use Rattle.data_tree.specs.Trees.{depth_in, span, IsDepth}

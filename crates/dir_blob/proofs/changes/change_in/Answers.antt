@@ -1,6 +1,6 @@
 -- What a change of an entry in a body that was read comes to.
 use Rattle.std.proofs.Common.{ℕ, List, length, ◌++◌, ◌∙◌, ap, arith}
-use Rattle.fs_blobs.specs.outcome.Outcome.{first_, idle, unbuilt}
+use Rattle.fs_blobs.specs.store_outcome.Outcome.{first_, idle, unbuilt}
 use Rattle.dir_entries.specs.Layout.{EntryTarget, entry_of, entry_text}
 use Rattle.dir_entries.proofs.Edits.{entry_length}
 use Rattle.dir_blob.specs.Directories.{HasNameIn}

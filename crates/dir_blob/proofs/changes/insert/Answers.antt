@@ -2,7 +2,7 @@
 use Rattle.std.proofs.Common.{◌+◌, ◌≤◌, ◌∙◌, ap, subst, arith}
 use Rattle.std.specs.Prelude.{IfOk, length}
 use Rattle.std.proofs.lemmas.Result.{err_from_is_err_and}
-use Rattle.fs_blobs.specs.outcome.Outcome.{first_, then_, passed}
+use Rattle.fs_blobs.specs.store_outcome.Outcome.{first_, then_, passed}
 use Rattle.fs_model.specs.Tree.{entry_size}
 use Rattle.fs_model.specs.declared.limits.TheConstants.{MAX_ENTRIES}
 use Rattle.dir_blob.proofs.Needs.{directory_still}

@@ -1,7 +1,7 @@
 -- What an insertion into a body that was read comes to.
 use Rattle.std.proofs.Common.{◌≡◌, ℕ, List, ◌-◌, ◌++◌, length, take, drop, sym, ◌∙◌, ap, arith}
 use Rattle.std.specs.Prelude.{is_some, true, false}
-use Rattle.fs_blobs.specs.outcome.Outcome.{first_, idle, unbuilt}
+use Rattle.fs_blobs.specs.store_outcome.Outcome.{first_, idle, unbuilt}
 use Rattle.dir_entries.specs.Layout.{EntryTarget, IsBody, entry_of, entry_text}
 use Rattle.dir_entries.proofs.Edits.{entry_length}
 use Rattle.dir_entries.proofs.Found.{absent_is}

@@ -1,7 +1,7 @@
 -- What a removal comes to.
 use Rattle.std.proofs.Common.{◌∙◌, arith}
 use Rattle.std.proofs.lemmas.Result.{err_from_is_err_and}
-use Rattle.fs_blobs.specs.outcome.Outcome.{first_, then_, passed}
+use Rattle.fs_blobs.specs.store_outcome.Outcome.{first_, then_, passed}
 use Rattle.dir_blob.proofs.Needs.{directory_still}
 use Rattle.dir_blob.proofs.changes.remove.Goals as goal
 

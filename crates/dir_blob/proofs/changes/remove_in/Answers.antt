@@ -2,7 +2,7 @@
 use Rattle.std.proofs.Common.{◌+◌, ◌-◌, ℕ, List, length, take, drop, refl, ap, arith}
 use Rattle.std.proofs.lemmas.Result.{err_from_is_err_and}
 use Rattle.std.proofs.lemmas.List.{length-drop}
-use Rattle.fs_blobs.specs.outcome.Outcome.{first_, then_, passed, idle, unbuilt}
+use Rattle.fs_blobs.specs.store_outcome.Outcome.{first_, then_, passed, idle, unbuilt}
 use Rattle.dir_blob.specs.Directories.{HasNameIn}
 use Rattle.dir_blob.proofs.Needs.{blob_of, slice_rest, blob_written, removed_entries, when_ok, read_body, read_fits}
 use Rattle.dir_blob.proofs.changes.remove_in.Goals as goal

@@ -1,7 +1,7 @@
 use Rattle.std.proofs.Common.{◌∙◌}
 use Rattle.std.proofs.lemmas.Option.{same_Some}
 use Rattle.std.proofs.lemmas.Result.{err_from_is_err_and}
-use Rattle.fs_blobs.specs.outcome.Outcome.{passed, answered, no_memory}
+use Rattle.fs_blobs.specs.store_outcome.Outcome.{passed, answered, no_memory}
 use Rattle.dir_entries.specs.Layout.{IsBody}
 use Rattle.dir_blob.proofs.reads.entries.Goals as goal
 

@@ -1,6 +1,6 @@
 use Rattle.std.proofs.Common.{◌∙◌}
 use Rattle.std.proofs.lemmas.Result.{err_from_is_err_and}
-use Rattle.fs_blobs.specs.outcome.Outcome.{passed, answered, unbuilt}
+use Rattle.fs_blobs.specs.store_outcome.Outcome.{passed, answered, unbuilt}
 use Rattle.dir_entries.specs.Layout.{IsBody}
 use Rattle.dir_blob.proofs.reads.find_in.Goals as goal
 

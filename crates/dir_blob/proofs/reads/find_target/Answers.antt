@@ -1,5 +1,5 @@
 use Rattle.std.proofs.lemmas.Result.{err_from_is_err_and}
-use Rattle.fs_blobs.specs.outcome.Outcome.{passed, answered}
+use Rattle.fs_blobs.specs.store_outcome.Outcome.{passed, answered}
 use Rattle.dir_blob.proofs.reads.find_target.Goals as goal
 
 pub returns-in_err-find_in-clause-outcome : goal.returns-in_err-find_in-clause-outcome

@@ -1,6 +1,6 @@
 use Rattle.std.proofs.Common.{length, ◌∙◌, ap, arith}
 use Rattle.std.proofs.lemmas.Result.{err_from_is_err_and}
-use Rattle.fs_blobs.specs.outcome.Outcome.{first_, passed, answered, unbuilt}
+use Rattle.fs_blobs.specs.store_outcome.Outcome.{first_, passed, answered, unbuilt}
 use Rattle.dir_entries.specs.Layout.{body_of}
 use Rattle.dir_blob.proofs.Needs.{blob_of, whole}
 use Rattle.dir_blob.proofs.reads.whole_body.Goals as goal

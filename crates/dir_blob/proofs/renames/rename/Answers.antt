@@ -1,6 +1,6 @@
 -- What another name comes to.
 use Rattle.std.proofs.Common.{ℕ, List, refl}
-use Rattle.fs_blobs.specs.outcome.Outcome.{first_, idle, unbuilt}
+use Rattle.fs_blobs.specs.store_outcome.Outcome.{first_, idle, unbuilt}
 use Rattle.dir_entries.specs.Layout.{IsBody, entry_of}
 use Rattle.dir_entries.specs.Renaming.{IsEdit, renamed}
 use Rattle.dir_blob.specs.Directories.{HasBothIn}

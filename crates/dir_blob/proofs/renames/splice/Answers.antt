@@ -2,7 +2,7 @@
 use Rattle.std.proofs.Common.{◌≡◌, ◌≤◌, ◌+◌, ◌++◌, length, take, drop, sym, ◌∙◌, ap, subst, arith}
 use Rattle.std.specs.FinMap.{insert}
 use Rattle.std.proofs.lemmas.Result.{err_from_is_err_and}
-use Rattle.fs_blobs.specs.outcome.Outcome.{first_, then_, passed}
+use Rattle.fs_blobs.specs.store_outcome.Outcome.{first_, then_, passed}
 use Rattle.block_id.specs.Contents.{resized, written}
 use Rattle.fs_model.specs.declared.attr.Kind.TheVariants.{Directory}
 use Rattle.fs_blobs.specs.Headers.{blob}

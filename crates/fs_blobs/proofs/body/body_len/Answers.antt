@@ -1,6 +1,6 @@
 use Rattle.std.proofs.Common.{arith}
 use Rattle.std.proofs.lemmas.Result.{err_from_is_err_and}
-use Rattle.blob_api.specs.outcome.Outcome.{first_, passed, answered, unbuilt}
+use Rattle.blob_api.specs.store_outcome.Outcome.{first_, passed, answered, unbuilt}
 use Rattle.fs_blobs.proofs.Parts.{has_bytes, length-blob}
 use Rattle.fs_blobs.proofs.body.body_len.Goals as goal
 

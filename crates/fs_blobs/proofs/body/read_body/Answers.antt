@@ -1,5 +1,5 @@
 use Rattle.std.proofs.Common.{take, drop, ◌∙◌, ap, arith}
-use Rattle.blob_api.specs.outcome.Outcome.{first_}
+use Rattle.blob_api.specs.store_outcome.Outcome.{first_}
 use Rattle.fs_blobs.specs.Headers.{blob}
 use Rattle.fs_blobs.proofs.Parts.{has_bytes, blob_fits, read_behind, read_past}
 use Rattle.fs_blobs.proofs.body.read_body.Goals as goal

@@ -1,6 +1,6 @@
 use Rattle.std.proofs.Common.{subst}
 use Rattle.std.specs.FinMap.{insert}
-use Rattle.blob_api.specs.outcome.Outcome.{first_}
+use Rattle.blob_api.specs.store_outcome.Outcome.{first_}
 use Rattle.fs_blobs.proofs.Parts.{has_bytes, resized_body}
 use Rattle.fs_blobs.proofs.body.resize_body.Goals as goal
 

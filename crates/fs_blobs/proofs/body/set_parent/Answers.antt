@@ -1,6 +1,6 @@
 use Rattle.std.proofs.Common.{◌≡◌, length, subst, rules}
 use Rattle.std.specs.FinMap.{insert}
-use Rattle.blob_api.specs.outcome.Outcome.{first_}
+use Rattle.blob_api.specs.store_outcome.Outcome.{first_}
 use Rattle.fs_blobs.proofs.Parts.{has_bytes, parent_set}
 use Rattle.fs_blobs.proofs.body.set_parent.Goals as goal
 

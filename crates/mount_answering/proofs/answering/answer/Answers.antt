@@ -8,12 +8,12 @@ use Rattle.mount_answering.proofs.Stores.{store_synced, store_on}
 use Rattle.fs_model.specs.Tree.{Tree}
 use Rattle.std.specs.declared.option.Option.TheVariants.{Some}
 use Rattle.outside.specs.Causes.{RoseBy}
-use Rattle.mount_core.specs.session_saver.declared.saver.Saver.{Saver}
+use Rattle.mount_core.specs.record_saver.declared.saver.Saver.{Saver}
 use Rattle.mount_core.specs.store_api.Durables.{with_mark}
 use Rattle.mount_core.specs.store_api.declared.tx.Tx.{Tx}
-use Rattle.mount_core.specs.tree_commands.Performing.{IsReplyTo}
-use Rattle.mount_core.specs.tree_commands.Showing.{ShowsFiles}
-use Rattle.mount_core.specs.tree_commands.Sparing.{OnWriteInside}
+use Rattle.mount_core.specs.path_layer.Performing.{IsReplyTo}
+use Rattle.mount_core.specs.path_layer.Showing.{ShowsFiles}
+use Rattle.mount_core.specs.path_layer.Sparing.{OnWriteInside}
 use Rattle.mount_core.specs.answers.declared.answer.Answer.{Answer}
 use Rattle.mount_core.specs.answers.declared.answer.Answer.TheVariants.{Memory, FaultDirectory, FaultState, Refused}
 use Rattle.mount_core.specs.answers.Sessions.{is_violation, directory_faults, state_faults}
@@ -31,7 +31,7 @@ use Rattle.mount_answering.proofs.Versions.{few_stays, few_on, always_inside, on
 use Rattle.mount_answering.proofs.Quiet.{sync_directory, sync_state, sync_directory_rose, sync_state_rose}
 use Rattle.mount_answering.proofs.answering.answer.Given.{Over}
 use Rattle.mount_answering.proofs.answering.answer.Goals as goal
-use Rattle.mount_core.specs.session_saver.Saving.{world}
+use Rattle.mount_core.specs.record_saver.Saving.{world}
 
 abbrev CoreOf : Over → Type 0
 CoreOf g = Core g.row.S.Denot g.row.K.Denot

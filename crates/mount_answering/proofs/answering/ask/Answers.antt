@@ -2,9 +2,9 @@ use Rattle.std.specs.FinMap as fin
 use Rattle.std.proofs.Common.{List, ℕ, refl, sym, subst}
 use Rattle.fs_model.specs.Tree.{Tree}
 use Rattle.rand_chacha.specs.ChaCha.{of_seed}
-use Rattle.mount_core.specs.session_saver.Saving.{world}
+use Rattle.mount_core.specs.record_saver.Saving.{world}
 use Rattle.mount_core.specs.store_api.declared.tx.Tx.{Tx}
-use Rattle.mount_core.specs.tree_commands.Showing.{ShowsFiles}
+use Rattle.mount_core.specs.path_layer.Showing.{ShowsFiles}
 use Rattle.mount_core.specs.Drawing.{DrawsOnce, NamesOfSeed}
 use Rattle.mount_core.specs.Standing.{CoreStands, Ready}
 use Rattle.mount_core.specs.declared.body.Core.{Core}

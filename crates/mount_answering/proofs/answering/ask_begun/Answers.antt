@@ -4,15 +4,15 @@ use Rattle.mount_core.specs.answers.declared.answer.Answer.{Answer}
 use Rattle.mount_core.specs.answers.declared.answer.Answer.TheVariants.{Reply as Replied, Memory, Spent, FaultDirectory, Violation, Refused}
 use Rattle.mount_core.specs.answers.Sessions.{is_violation, directory_faults, state_faults}
 use Rattle.block_id.specs.declared.fail.Why.{Why}
-use Rattle.mount_core.specs.outcome.Meanings.{HasCause}
-use Rattle.mount_core.specs.outcome.Outcome.{alarm as no_alarm}
+use Rattle.mount_core.specs.store_outcome.Meanings.{HasCause}
+use Rattle.mount_core.specs.store_outcome.Outcome.{alarm as no_alarm}
 use Rattle.outside.specs.Causes.{RoseBy}
 use Rattle.outside.specs.Going.{goes_on_onward}
 use Rattle.mount_core.proofs.store_api_lemmas.Draws.{later_same}
 use Rattle.mount_core.specs.store_api.Txs.{tx_laws}
-use Rattle.mount_core.specs.tree_commands.Performing.{IsReplyTo}
-use Rattle.mount_core.specs.tree_commands.Showing.{ShowsFiles}
-use Rattle.mount_core.proofs.tree_commands_lemmas.Shows.{files_same}
+use Rattle.mount_core.specs.path_layer.Performing.{IsReplyTo}
+use Rattle.mount_core.specs.path_layer.Showing.{ShowsFiles}
+use Rattle.mount_core.proofs.path_layer_lemmas.Shows.{files_same}
 use Rattle.mount_core.specs.Answers.{is_done_answer, is_structure, Notices, OnReply, OnSpent, OnFound}
 use Rattle.mount_core.specs.Causes.{SpentCause}
 use Rattle.mount_core.specs.Drawing.{DrawsOnce, NamesOfSeed}
@@ -28,7 +28,7 @@ use Rattle.mount_answering.proofs.Versions.{raised_stays, raised_on, few_stays, 
 use Rattle.mount_answering.proofs.Quiet.{fail_directory, fail_directory_rose}
 use Rattle.mount_answering.proofs.answering.ask_begun.Given.{Over}
 use Rattle.mount_answering.proofs.answering.ask_begun.Goals as goal
-use Rattle.mount_core.specs.session_saver.Saving.{world}
+use Rattle.mount_core.specs.record_saver.Saving.{world}
 
 abbrev CoreOf : Over → Type 0
 CoreOf g = Core g.row.S.Denot g.row.K.Denot

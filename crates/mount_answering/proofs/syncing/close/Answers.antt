@@ -1,8 +1,8 @@
 use Rattle.std.proofs.Common.{refl}
 use Rattle.std.specs.declared.result.Result.TheVariants.{Ok}
-use Rattle.mount_core.proofs.session_saver_lemmas.Steps.{leaves_same, ok_no_error}
-use Rattle.mount_core.specs.session_saver.declared.saver.SyncError.TheVariants.{FaultDirectory, FaultState}
-use Rattle.mount_core.specs.tree_commands.Showing.{ShowsFiles}
+use Rattle.mount_core.proofs.record_saver_lemmas.Steps.{leaves_same, ok_no_error}
+use Rattle.mount_core.specs.record_saver.declared.saver.SyncError.TheVariants.{FaultDirectory, FaultState}
+use Rattle.mount_core.specs.path_layer.Showing.{ShowsFiles}
 use Rattle.mount_answering.proofs.Closing.{closes_violated, closes_synced, closes_along, leaves_along}
 use Rattle.mount_answering.proofs.syncing.close.Goals as goal
 use Rattle.mount_answering.proofs.syncing.close.Goals.{then-core, else-core}

@@ -2,14 +2,14 @@ use Rattle.std.proofs.Common.{true, inl, inr, refl, sym, ◌∙◌, subst, arith
 use Rattle.outside.specs.Causes.{RoseBy}
 use Rattle.outside.specs.Going.{GoesOn, goes_on_equal}
 use Rattle.mount_core.specs.store_api.Holdings.{IsFew}
-use Rattle.mount_core.specs.tree_commands.Showing.{ShowsFiles}
-use Rattle.mount_core.proofs.tree_commands_lemmas.Shows.{files_same}
+use Rattle.mount_core.specs.path_layer.Showing.{ShowsFiles}
+use Rattle.mount_core.proofs.path_layer_lemmas.Shows.{files_same}
 use Rattle.mount_core.specs.Keeping.{HasConfigWaiting}
 use Rattle.mount_core.specs.declared.body.Core.{Core}
 use Rattle.mount_answering.proofs.Formats.{least_along}
 use Rattle.mount_answering.proofs.Lines.{replaced, stands_loaded, stands_waiting, stays_on, config_waiting, configures_loaded, whole_loaded}
-use Rattle.mount_core.specs.session_saver.Saving.{world}
-use Rattle.mount_core.proofs.session_saver_lemmas.Steps.{memory_directory, memory_state, unless_directory}
+use Rattle.mount_core.specs.record_saver.Saving.{world}
+use Rattle.mount_core.proofs.record_saver_lemmas.Steps.{memory_directory, memory_state, unless_directory}
 use Rattle.mount_answering.proofs.syncing.replace_config.Given.{Over}
 use Rattle.mount_answering.proofs.syncing.replace_config.Goals as goal
 

@@ -1,9 +1,9 @@
 use Rattle.std.proofs.Common.{◌≡◌, true, false, refl, sym, subst, rules}
-use Rattle.mount_core.proofs.session_saver_lemmas.Steps.{any_configures, short_configures}
-use Rattle.mount_core.specs.session_saver.Saving.{KeepsEmpty}
+use Rattle.mount_core.proofs.record_saver_lemmas.Steps.{any_configures, short_configures}
+use Rattle.mount_core.specs.record_saver.Saving.{KeepsEmpty}
 use Rattle.mount_core.specs.store_api.Holdings.{IsFew}
-use Rattle.mount_core.specs.tree_commands.Showing.{ShowsFiles}
-use Rattle.mount_core.proofs.tree_commands_lemmas.Shows.{files_same}
+use Rattle.mount_core.specs.path_layer.Showing.{ShowsFiles}
+use Rattle.mount_core.proofs.path_layer_lemmas.Shows.{files_same}
 use Rattle.mount_core.specs.declared.body.Core.{Core}
 use Rattle.mount_answering.proofs.Formats.{least_synced}
 use Rattle.mount_answering.proofs.Lines.{map_ok}

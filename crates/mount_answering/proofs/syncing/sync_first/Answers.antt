@@ -1,7 +1,7 @@
 use Rattle.std.proofs.Common.{inl, refl, sym, ◌∙◌, arith}
-use Rattle.mount_core.proofs.session_saver_lemmas.Steps.{leaves_same, ok_no_error}
-use Rattle.mount_core.specs.session_saver.declared.saver.SyncError.TheVariants.{FaultDirectory, FaultState}
-use Rattle.mount_core.specs.tree_commands.Showing.{ShowsFiles}
+use Rattle.mount_core.proofs.record_saver_lemmas.Steps.{leaves_same, ok_no_error}
+use Rattle.mount_core.specs.record_saver.declared.saver.SyncError.TheVariants.{FaultDirectory, FaultState}
+use Rattle.mount_core.specs.path_layer.Showing.{ShowsFiles}
 use Rattle.mount_answering.proofs.Lines.{map_ok, true_is_false}
 use Rattle.mount_answering.proofs.Synced.{config_roomed, roomed}
 use Rattle.mount_answering.proofs.syncing.sync_first.Goals as goal

@@ -1,12 +1,12 @@
 use Rattle.std.proofs.Common.{◌≤◌, ◌<◌, ◌∙◌, refl, sym, ap, subst, arith}
-use Rattle.mount_blocks.specs.config_file.declared.config.Cipher.{Cipher}
+use Rattle.mount.specs.config_file.declared.config.Cipher.{Cipher}
 use Rattle.mount_opening.specs.data_nodes.Layout.{ids_of}
-use Rattle.mount_blocks.specs.integrity_store.declared.store.IntegrityStore.{IntegrityStore}
+use Rattle.mount.specs.integrity_store.declared.store.IntegrityStore.{IntegrityStore}
 use Rattle.mount_opening.specs.local_state.Known.{live_ids}
 use Rattle.mount_opening.specs.local_state.declared.state.State.{State}
-use Rattle.mount_blocks.specs.mount.declared.mount.Mount.{Mount}
+use Rattle.mount.specs.declared.mount.Mount.{Mount}
 use Rattle.mount_opening.specs.store_api.Durables.{Identity}
-use Rattle.mount_blocks.proofs.Living.{has_payload, ids_live}
+use Rattle.mount.proofs.Living.{has_payload, ids_live}
 use Rattle.mount_calls.specs.Migrating.{least_in}
 use Rattle.mount_calls.proofs.Migrated.{is_one, is_two, listed_once, migrates_all, migrates_failed, migrates_none, migrates_unlisted}
 use Rattle.mount_calls.proofs.Resealing.{seals_anew, seals_unmoved}

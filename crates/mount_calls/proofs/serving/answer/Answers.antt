@@ -1,6 +1,6 @@
 use Rattle.std.proofs.Common.{refl}
-use Rattle.mount_blocks.specs.integrity_store.WaitingLaws.{in_order}
-use Rattle.mount_blocks.proofs.mount_lemmas.Sealing.{line_owns, line_seals}
+use Rattle.mount.specs.integrity_store.WaitingLaws.{in_order}
+use Rattle.mount.proofs.Sealing.{line_owns, line_seals}
 use Rattle.mount_calls.proofs.serving.answer.Goals as goal
 
 pub returns-clause-draws : goal.returns-clause-draws

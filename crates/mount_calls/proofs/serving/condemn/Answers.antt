@@ -1,10 +1,10 @@
 use Rattle.std.proofs.Common.{◌∙◌, ap, refl}
 use Rattle.std.specs.declared.option.Option.TheVariants.{None}
-use Rattle.mount_blocks.specs.held_blocks.Held.{Held}
-use Rattle.mount_blocks.specs.held_blocks.Standing.{records}
-use Rattle.mount_blocks.specs.integrity_store.EnduringLaws.{enduring_by}
+use Rattle.mount.specs.block_versions.Held.{Held}
+use Rattle.mount.specs.block_versions.Standing.{records}
+use Rattle.mount.specs.integrity_store.EnduringLaws.{enduring_by}
 use Rattle.mount_migrating.proofs.mount_answering_lemmas.Lines.{config_marked}
-use Rattle.mount_blocks.specs.mount_tower.Tower.{Cached, tower_meanings, tower_holdings, tower_durables}
+use Rattle.mount.specs.mount_stores.Tower.{Cached, tower_meanings, tower_holdings, tower_durables}
 use Rattle.mount_opening.specs.store_api.declared.tx.Tx.{Tx}
 use Rattle.mount_opening.specs.mount_core.Showing.{ShowsFiles}
 use Rattle.mount_calls.proofs.serving.condemn.Goals as goal

@@ -1,9 +1,9 @@
 use Rattle.std.proofs.Common.{refl, ◌∙◌}
-use Rattle.mount_blocks.specs.integrity_store.WaitingLaws.{in_order}
-use Rattle.mount_blocks.proofs.mount_lemmas.Same.{same_mount}
-use Rattle.mount_blocks.proofs.mount_lemmas.Sealing.{wrote_sealed}
-use Rattle.mount_blocks.specs.mount_tower.Tower.{tower_holdings, tower_durables}
-use Rattle.mount_blocks.proofs.mount_tower_lemmas.Emptied.{emptied_on}
+use Rattle.mount.specs.integrity_store.WaitingLaws.{in_order}
+use Rattle.mount.proofs.Same.{same_mount}
+use Rattle.mount.proofs.Sealing.{wrote_sealed}
+use Rattle.mount.specs.mount_stores.Tower.{tower_holdings, tower_durables}
+use Rattle.mount.proofs.mount_stores_lemmas.Emptied.{emptied_on}
 use Rattle.mount_calls.proofs.serving.sync.Goals as goal
 
 pub returns : goal.returns

@@ -2,7 +2,7 @@ use Rattle.std.proofs.Common.{◌≡◌, false, inr, refl, sym, ap, subst}
 use Rattle.std.specs.declared.result.Result.TheVariants.{Ok, Err}
 use Rattle.mount_answering.specs.answers.Sessions.{is_violation}
 use Rattle.block_id.specs.declared.fail.Why.{Why}
-use Rattle.mount_answering.specs.session_saver.Saving.{world}
+use Rattle.mount_answering.specs.record_saver.Saving.{world}
 use Rattle.mount_answering.specs.mount_core.Showing.{ShowsFiles}
 use Rattle.mount_answering.specs.store_api.declared.tx.Tx.{Tx}
 use Rattle.mount_migrating.specs.Migrating.{told, Migrates, Moves}

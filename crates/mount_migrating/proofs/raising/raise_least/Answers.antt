@@ -2,10 +2,10 @@ use Rattle.std.proofs.Common.{◌≡◌, ℕ, true, false, refl, sym, ◌∙◌,
 use Rattle.std.specs.declared.result.Result.TheVariants.{Ok, Err}
 use Rattle.mount_answering.specs.store_api.Holdings.{Stays}
 use Rattle.mount_answering.specs.store_api.Leaving.{StaysMeant, SetsLeast}
-use Rattle.mount_answering.specs.session_saver.Saving.{world}
-use Rattle.mount_answering.specs.session_saver.declared.saver.Saver.{Saver}
+use Rattle.mount_answering.specs.record_saver.Saving.{world}
+use Rattle.mount_answering.specs.record_saver.declared.saver.Saver.{Saver}
 use Rattle.mount_answering.specs.mount_core.Showing.{ShowsFiles}
-use Rattle.mount_answering.proofs.tree_commands_lemmas.Shows.{files_same}
+use Rattle.mount_answering.proofs.path_layer_lemmas.Shows.{files_same}
 use Rattle.mount_answering.specs.mount_core.declared.body.Core.{Core}
 use Rattle.mount_migrating.specs.Migrating.{IsMigratedRecord, Rests}
 use Rattle.mount_migrating.specs.Noticing.{OnlySet}

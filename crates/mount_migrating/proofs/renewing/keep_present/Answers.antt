@@ -1,6 +1,6 @@
 use Rattle.std.proofs.Common.{sym, subst}
 use Rattle.std.specs.declared.result.Result.TheVariants.{Ok, Err}
-use Rattle.mount_answering.specs.session_saver.Saving.{world}
+use Rattle.mount_answering.specs.record_saver.Saving.{world}
 use Rattle.mount_answering.specs.mount_core.Showing.{ShowsFiles}
 use Rattle.mount_migrating.specs.Migrating.{told, Rests}
 use Rattle.mount_migrating.proofs.Noticing.{along_synced}

@@ -6,12 +6,12 @@ use Rattle.outside.specs.View.{bytes_of}
 use Rattle.std.specs.FinMap as fin
 use Rattle.std.specs.declared.option.Option.TheVariants.{Some}
 use Rattle.std.specs.declared.result.Result.TheVariants.{Err}
-use Rattle.mount_answering.specs.outcome.Outcome.{alarm as no_alarm}
-use Rattle.mount_answering.specs.session_saver.Saving.{world}
+use Rattle.mount_answering.specs.store_outcome.Outcome.{alarm as no_alarm}
+use Rattle.mount_answering.specs.record_saver.Saving.{world}
 use Rattle.mount_answering.specs.store_api.Content.{Changes}
 use Rattle.mount_answering.specs.store_api.Holdings.{Changed, FitsStore, IsFew, IsSpent}
 use Rattle.mount_answering.specs.mount_core.Showing.{ShowsFiles}
-use Rattle.mount_answering.proofs.tree_commands_lemmas.Shows.{files_same}
+use Rattle.mount_answering.proofs.path_layer_lemmas.Shows.{files_same}
 use Rattle.mount_answering.specs.mount_core.Drawing.{NamesKnown}
 use Rattle.mount_answering.specs.mount_core.declared.body.Core.{Core}
 use Rattle.mount_answering.proofs.Lines.{whole_loaded}

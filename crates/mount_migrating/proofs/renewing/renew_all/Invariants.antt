@@ -1,7 +1,7 @@
 use Rattle.std.proofs.Common.{◌≡◌, take}
 use Rattle.mount_answering.specs.answers.declared.answer.Answer.TheVariants.{Reply as Replied}
 use Rattle.fs_model.specs.declared.reply.Reply.TheVariants.{Done}
-use Rattle.mount_answering.specs.session_saver.Saving.{world}
+use Rattle.mount_answering.specs.record_saver.Saving.{world}
 use Rattle.mount_answering.specs.store_api.Content.{Id}
 use Rattle.mount_answering.specs.store_api.Durables.{IsNewFile}
 use Rattle.mount_answering.specs.mount_core.Showing.{ShowsFiles}

@@ -4,8 +4,8 @@ use Rattle.fs_model.specs.Tree.{empty_tree}
 use Rattle.outside.specs.Causes.{RoseBy}
 use Rattle.outside.specs.Going.{GoesOn, goes_on_equal}
 use Rattle.mount_core.specs.store_api.Durables.{Identity, last_told}
-use Rattle.mount_core.specs.tree_commands.Showing.{ShowsFiles}
-use Rattle.mount_core.proofs.session_saver_lemmas.Steps.{unless_directory, memory_directory, memory_state}
+use Rattle.mount_core.specs.path_layer.Showing.{ShowsFiles}
+use Rattle.mount_core.proofs.record_saver_lemmas.Steps.{unless_directory, memory_directory, memory_state}
 use Rattle.mount_opening.proofs.NewBlock.{fits_one, root_raised, always_ok, on_ok, only_one, made, made_config, fine_ok}
 use Rattle.mount_opening.proofs.making.make.Goals as goal
 

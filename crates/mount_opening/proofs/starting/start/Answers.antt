@@ -3,13 +3,13 @@ use Rattle.std.specs.declared.result.Result.TheVariants.{Err}
 use Rattle.outside.specs.Causes.{RoseBy}
 use Rattle.outside.specs.Going.{goes_on_same}
 use Rattle.outside.specs.Writes.{after_writes}
-use Rattle.mount_core.specs.session_saver.Saving.{RepresentsContent}
-use Rattle.mount_core.specs.tree_commands.Showing.{ShowsFiles}
-use Rattle.mount_core.proofs.tree_commands_lemmas.Shows.{files_same}
+use Rattle.mount_core.specs.record_saver.Saving.{RepresentsContent}
+use Rattle.mount_core.specs.path_layer.Showing.{ShowsFiles}
+use Rattle.mount_core.proofs.path_layer_lemmas.Shows.{files_same}
 use Rattle.mount_core.specs.declared.body.Core.{Core}
 use Rattle.mount_core.proofs.Moving.{stays_same}
-use Rattle.mount_core.specs.session_saver.declared.saver.Saver.{Saver}
-use Rattle.mount_core.proofs.session_saver_lemmas.Steps.{unless_state, short_configures, true_is_false}
+use Rattle.mount_core.specs.record_saver.declared.saver.Saver.{Saver}
+use Rattle.mount_core.proofs.record_saver_lemmas.Steps.{unless_state, short_configures, true_is_false}
 use Rattle.mount_opening.proofs.Beginning.{Written, written_at, begun, cause_of, configured}
 use Rattle.mount_opening.proofs.starting.start.Given.{Over}
 use Rattle.mount_opening.proofs.starting.start.Goals as goal

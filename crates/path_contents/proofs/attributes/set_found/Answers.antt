@@ -1,9 +1,9 @@
 use Rattle.std.proofs.Common.{sym, ◌∙◌, ap, subst, ◌≤◌}
-use Rattle.path_entries.specs.outcome.Outcome.{first_}
+use Rattle.path_walks.specs.store_outcome.Outcome.{first_}
 use Rattle.fs_model.specs.declared.attr.Attr.{Attr}
 use Rattle.fs_model.specs.declared.limits.TheConstants.{MAX_MODE}
-use Rattle.path_entries.specs.tree_rules.Changes.{changed_by}
-use Rattle.path_entries.proofs.path_walks_lemmas.Told.{made}
+use Rattle.fs_model.specs.Changes.{changed_by}
+use Rattle.path_walks.proofs.Told.{made}
 use Rattle.path_contents.proofs.Found.{kind_kept, mode_fits, setting, set_done}
 use Rattle.path_contents.proofs.attributes.set_found.Goals as goal
 

@@ -1,5 +1,5 @@
 use Rattle.std.proofs.lemmas.Result.{err_from_is_err_and}
-use Rattle.path_entries.specs.outcome.Outcome.{first_, then_, passed}
+use Rattle.path_walks.specs.store_outcome.Outcome.{first_, then_, passed}
 use Rattle.path_contents.proofs.Setting.{file_blob, has_name_in_then, content_set, resized_few}
 use Rattle.path_contents.proofs.changes.resize_at.Goals as goal
 

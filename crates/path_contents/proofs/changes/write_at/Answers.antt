@@ -1,7 +1,7 @@
 use Rattle.std.proofs.Common.{◌≤◌, length, ap, subst, arith}
 use Rattle.std.proofs.lemmas.Result.{err_from_is_err_and}
-use Rattle.path_entries.specs.outcome.Outcome.{first_, then_, passed}
-use Rattle.path_entries.specs.blob_api.BlobMap.{IsSparing}
+use Rattle.path_walks.specs.store_outcome.Outcome.{first_, then_, passed}
+use Rattle.path_walks.specs.blob_api.BlobMap.{IsSparing}
 use Rattle.path_contents.proofs.Setting.{file_blob, has_name_in_then, content_set, written_few, spared, spared_once}
 use Rattle.path_contents.proofs.changes.write_at.Goals as goal
 

@@ -1,16 +1,16 @@
 use Rattle.std.proofs.Common.{◌≤◌, true, false, length, refl, sym, ◌∙◌, ap, subst}
 use Rattle.block_id.specs.declared.id.BlockId.{BlockId}
 use Rattle.std.proofs.lemmas.Result.{err_from_is_err_and}
-use Rattle.path_entries.specs.outcome.Outcome.{then_, passed, answered, idle}
+use Rattle.path_walks.specs.store_outcome.Outcome.{then_, passed, answered, idle}
 use Rattle.block_id.specs.Contents as bytes
 use Rattle.fs_model.specs.declared.attr.Attr.{Attr}
 use Rattle.fs_model.specs.declared.attr.Kind.TheVariants.{File}
 use Rattle.fs_model.specs.declared.limits.TheConstants.{MAX_MODE}
 use Rattle.fs_model.specs.declared.reply.Reply.TheVariants.{Done, Error}
-use Rattle.path_entries.proofs.path_walks_lemmas.Told.{stays, told_as, made}
-use Rattle.path_entries.proofs.path_walks_lemmas.Found.{q, is_kind}
+use Rattle.path_walks.proofs.Told.{stays, told_as, made}
+use Rattle.path_walks.proofs.Found.{q, is_kind}
 use Rattle.path_contents.proofs.Found.{setting_by, set_done}
-use Rattle.path_entries.proofs.Touching.{stamped}
+use Rattle.path_walks.proofs.Touching.{stamped}
 use Rattle.path_contents.proofs.Ends.{ends_found}
 use Rattle.path_contents.proofs.Steps.{cut_by, unless_long}
 use Rattle.path_contents.proofs.content.truncate_found.Goals as goal

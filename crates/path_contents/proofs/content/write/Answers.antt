@@ -1,14 +1,14 @@
 use Rattle.std.proofs.Common.{◌≤◌, length, refl, sym, ◌∙◌, ap, subst, arith}
 use Rattle.std.specs.FinMap.{get}
 use Rattle.std.proofs.lemmas.Option.{same_Some}
-use Rattle.path_entries.specs.outcome.Outcome.{passed}
+use Rattle.path_walks.specs.store_outcome.Outcome.{passed}
 use Rattle.fs_model.specs.declared.error.FsError.TheVariants.{IsDirectory}
 use Rattle.fs_model.specs.Tree.{Row, upward, parent, directory_size}
 use Rattle.fs_model.specs.Step as model
-use Rattle.path_entries.proofs.path_walks_lemmas.Commands.{reached_none, reached_row}
-use Rattle.path_entries.specs.path_walks.Reaching.{ReachedIs, HaveRowModes}
+use Rattle.path_walks.proofs.Commands.{reached_none, reached_row}
+use Rattle.path_walks.specs.Reaching.{ReachedIs, HaveRowModes}
 use Rattle.path_contents.proofs.Spared.{unspent, onward}
-use Rattle.path_entries.proofs.path_walks_lemmas.Seeing.{row_finding}
+use Rattle.path_walks.proofs.Seeing.{row_finding}
 use Rattle.path_contents.proofs.content.write.Goals as goal
 
 pub returns-in-Ok-Refused-clause-outcome : goal.returns-in-Ok-Refused-clause-outcome

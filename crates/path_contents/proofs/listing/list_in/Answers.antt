@@ -1,8 +1,8 @@
 use Rattle.std.proofs.Common.{map, ◌∙◌, ap}
 use Rattle.std.proofs.lemmas.Result.{err_from_is_err_and}
-use Rattle.path_entries.specs.outcome.Outcome.{first_, passed, answered}
+use Rattle.path_walks.specs.store_outcome.Outcome.{first_, passed, answered}
 use Rattle.fs_model.specs.declared.reply.Reply.TheVariants.{Rows}
-use Rattle.path_entries.specs.dir_entries.Layout.{listing_of}
+use Rattle.path_walks.specs.dir_entries.Layout.{listing_of}
 use Rattle.path_contents.specs.Listed.{shown_row}
 use Rattle.path_contents.proofs.Folder.{directory, rows_told}
 use Rattle.path_contents.proofs.listing.list_in.Goals as goal

@@ -1,5 +1,5 @@
 use Rattle.std.proofs.Common.{◌≡◌, map, take}
-use Rattle.path_entries.specs.dir_entries.Layout.{listing_of}
+use Rattle.path_walks.specs.dir_entries.Layout.{listing_of}
 use Rattle.path_contents.specs.Listed.{shown_row}
 use Rattle.path_contents.proofs.listing.rows_of.Given as goal
 

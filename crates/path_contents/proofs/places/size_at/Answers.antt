@@ -1,5 +1,5 @@
 use Rattle.std.proofs.Common.{length, ◌∙◌, ap}
-use Rattle.path_entries.specs.outcome.Outcome.{first_, idle}
+use Rattle.path_walks.specs.store_outcome.Outcome.{first_, idle}
 use Rattle.fs_model.specs.declared.attr.Attr.{Attr}
 use Rattle.fs_model.specs.Tree.{is_directory}
 use Rattle.path_contents.proofs.Blobs.{blob_at, plain_body, folder_bytes}

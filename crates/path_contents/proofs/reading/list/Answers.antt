@@ -1,13 +1,13 @@
 use Rattle.std.proofs.Common.{refl, sym, ◌∙◌, ap}
-use Rattle.path_entries.specs.outcome.Outcome.{then_, answered, passed}
+use Rattle.path_walks.specs.store_outcome.Outcome.{then_, answered, passed}
 use Rattle.fs_model.specs.declared.attr.Attr.{Attr}
 use Rattle.fs_model.specs.Tree.{upward, is_directory}
 use Rattle.fs_model.specs.LookUp.{look}
 use Rattle.fs_model.specs.Step.{listed}
 use Rattle.fs_model.proofs.LookUpLemmas.{look-found}
 use Rattle.fs_model.proofs.WellFormedStep.{listed_stays}
-use Rattle.path_entries.proofs.path_walks_lemmas.Steps.{wrong_here}
-use Rattle.path_entries.proofs.path_walks_lemmas.Told.{stays}
+use Rattle.path_walks.proofs.Steps.{wrong_here}
+use Rattle.path_walks.proofs.Told.{stays}
 use Rattle.path_contents.proofs.Seen.{looked, here, wrong_steps, in_folder}
 use Rattle.path_contents.proofs.Steps.{list_refused}
 use Rattle.path_contents.proofs.reading.list.Goals as goal

@@ -1,7 +1,7 @@
 use Rattle.std.proofs.Common.{Ok, cond, take, drop, refl, sym, ◌∙◌, ap, subst}
 use Rattle.std.proofs.lemmas.Bool.{lt-ltb, le-ltb}
 use Rattle.std.proofs.lemmas.Result.{err_from_is_err_and}
-use Rattle.path_entries.specs.outcome.Outcome.{Outcome, then_, failed_, answered, passed}
+use Rattle.path_walks.specs.store_outcome.Outcome.{Outcome, then_, failed_, answered, passed}
 use Rattle.fs_model.specs.declared.attr.Attr.{Attr}
 use Rattle.fs_model.specs.declared.attr.Kind.TheVariants.{File}
 use Rattle.fs_model.specs.declared.error.FsError.TheVariants.{TooLarge}
@@ -11,9 +11,9 @@ use Rattle.fs_model.specs.Tree.{upward, is_directory}
 use Rattle.fs_model.specs.LookUp.{look}
 use Rattle.fs_model.specs.Step as model
 use Rattle.fs_model.proofs.LookUpLemmas.{look-found}
-use Rattle.path_entries.specs.forest.Showing.{BlobsShow, Performed}
-use Rattle.path_entries.proofs.path_walks_lemmas.Steps.{wrong_here}
-use Rattle.path_entries.proofs.path_walks_lemmas.Told.{stays}
+use Rattle.path_walks.specs.Showing.{BlobsShow, Performed}
+use Rattle.path_walks.proofs.Steps.{wrong_here}
+use Rattle.path_walks.proofs.Told.{stays}
 use Rattle.path_contents.proofs.Seen.{here, wrong_steps, holding}
 use Rattle.path_contents.proofs.Steps.{content_by}
 use Rattle.path_contents.proofs.reading.read.Goals as goal

@@ -1,14 +1,14 @@
 use Rattle.std.proofs.Common.{Ok, length, refl, sym, ◌∙◌, ap}
 use Rattle.std.proofs.lemmas.Result.{err_from_is_err_and}
-use Rattle.path_entries.specs.outcome.Outcome.{Outcome, then_, failed_, answered, passed}
+use Rattle.path_walks.specs.store_outcome.Outcome.{Outcome, then_, failed_, answered, passed}
 use Rattle.fs_model.specs.declared.reply.Reply.TheVariants.{Info}
 use Rattle.fs_model.specs.Tree.{upward}
 use Rattle.fs_model.specs.LookUp.{look}
 use Rattle.fs_model.specs.Step as model
 use Rattle.fs_model.proofs.LookUpLemmas.{look-found}
-use Rattle.path_entries.specs.forest.Showing.{BlobsShow, Performed}
-use Rattle.path_entries.proofs.path_walks_lemmas.Steps.{wrong_here}
-use Rattle.path_entries.proofs.path_walks_lemmas.Told.{stays}
+use Rattle.path_walks.specs.Showing.{BlobsShow, Performed}
+use Rattle.path_walks.proofs.Steps.{wrong_here}
+use Rattle.path_walks.proofs.Told.{stays}
 use Rattle.path_contents.proofs.Seen.{here, wrong_steps, standing}
 use Rattle.path_contents.proofs.Steps.{told_by}
 use Rattle.path_contents.proofs.reading.stat.Goals as goal

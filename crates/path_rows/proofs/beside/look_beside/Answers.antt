@@ -1,8 +1,8 @@
 use Rattle.std.proofs.Common.{ℕ, List, ◌++◌, sym, ◌∙◌, ap, subst}
-use Rattle.path_entries.specs.outcome.Outcome.{first_, idle, unbuilt}
+use Rattle.path_walks.specs.store_outcome.Outcome.{first_, idle, unbuilt}
 use Rattle.fs_model.specs.Tree.{upward}
 use Rattle.fs_model.proofs.TreeLemmas.{same_path_is}
-use Rattle.path_entries.specs.path_walks.Sights.{SightIs}
+use Rattle.path_walks.specs.Sights.{SightIs}
 use Rattle.path_rows.specs.Onward.{Leaving}
 use Rattle.path_rows.proofs.OnTheWay.{showing}
 use Rattle.path_rows.proofs.Looks.{seen_beside}

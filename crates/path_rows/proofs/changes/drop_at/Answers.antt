@@ -1,5 +1,5 @@
 use Rattle.std.proofs.lemmas.Result.{err_from_is_err_and}
-use Rattle.path_entries.specs.outcome.Outcome.{first_, then_, passed}
+use Rattle.path_walks.specs.store_outcome.Outcome.{first_, then_, passed}
 use Rattle.path_rows.proofs.Dropped.{has_name_in, has_blob, dropped}
 use Rattle.path_rows.proofs.changes.drop_at.Goals as goal
 

@@ -1,10 +1,10 @@
 use Rattle.std.proofs.Common.{◌≡◌, true, false, Ok, sym, ◌∙◌, ap}
 use Rattle.std.specs.Cmp.{Equal-is}
 use Rattle.std.proofs.lemmas.Result.{err_from_is_err_and}
-use Rattle.path_entries.specs.outcome.Outcome.{Outcome, first_, then_, failed_, passed}
+use Rattle.path_walks.specs.store_outcome.Outcome.{Outcome, first_, then_, failed_, passed}
 use Rattle.fs_model.specs.Tree.{name_cmp}
 use Rattle.fs_model.proofs.TreeLemmas.{name_exact, name_same, same_name}
-use Rattle.path_entries.specs.dir_entries.Layout.{entry_of}
+use Rattle.path_walks.specs.dir_entries.Layout.{entry_of}
 use Rattle.path_rows.specs.Moves.{Moving}
 use Rattle.path_rows.proofs.Relocated.{IsOnTheWay, looks1, looks2, has_name_in, gone, has_room_in, came, blob_moved, relocated, rested}
 use Rattle.path_rows.proofs.InPlace.{has_both_in, stays}

@@ -1,8 +1,8 @@
 use Rattle.std.proofs.Common.{sym, subst}
 use Rattle.std.specs.FinMap.{insert, empty}
 use Rattle.fs_model.specs.Tree.{empty_tree}
-use Rattle.path_entries.specs.forest.Shows.{ShowsBy}
-use Rattle.path_entries.proofs.forest_lemmas.Empty.{empty_shows}
+use Rattle.path_walks.specs.Shows.{ShowsBy}
+use Rattle.path_walks.proofs.Empty.{empty_shows}
 use Rattle.path_rows.proofs.empty.empty_root.Goals as goal
 
 pub returns-clause-shows : goal.returns-clause-shows

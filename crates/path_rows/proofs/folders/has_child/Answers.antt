@@ -1,11 +1,11 @@
 use Rattle.std.proofs.Common.{◌∙◌, ap}
 use Rattle.std.specs.Prelude.{nat_lt}
 use Rattle.std.proofs.lemmas.Result.{err_from_is_err_and}
-use Rattle.path_entries.specs.outcome.Outcome.{first_, passed, answered}
+use Rattle.path_walks.specs.store_outcome.Outcome.{first_, passed, answered}
 use Rattle.fs_model.proofs.SizeLemmas.{has_child-size}
-use Rattle.path_entries.proofs.dir_blob_lemmas.Needs.{blob_of}
-use Rattle.path_entries.proofs.path_walks_lemmas.Nodes.{size_at}
-use Rattle.path_entries.proofs.path_walks_lemmas.Steps.{directory_seen, folder_is}
+use Rattle.path_walks.proofs.dir_blob_lemmas.Needs.{blob_of}
+use Rattle.path_walks.proofs.Nodes.{size_at}
+use Rattle.path_walks.proofs.Steps.{directory_seen, folder_is}
 use Rattle.path_rows.proofs.folders.has_child.Goals as goal
 
 pub returns-in_err-body_len-clause-outcome : goal.returns-in_err-body_len-clause-outcome

@@ -1,12 +1,12 @@
 use Rattle.std.proofs.Common.{Ok, sym, subst}
 use Rattle.std.specs.FinMap.{put}
 use Rattle.std.proofs.lemmas.Result.{err_from_is_err_and}
-use Rattle.path_entries.specs.outcome.Outcome.{Outcome, first_, then_, failed_, passed, answered}
-use Rattle.path_entries.specs.blob_api.BlobMap.{IsNew}
+use Rattle.path_walks.specs.store_outcome.Outcome.{Outcome, first_, then_, failed_, passed, answered}
+use Rattle.path_walks.specs.blob_api.BlobMap.{IsNew}
 use Rattle.fs_model.specs.Tree.{Row, name_cmp}
-use Rattle.path_entries.specs.fs_blobs.Headers.{blob}
-use Rattle.path_entries.specs.dir_blob.Directories.{HasEntries}
-use Rattle.path_entries.specs.forest.Shows.{above}
+use Rattle.path_walks.specs.fs_blobs.Headers.{blob}
+use Rattle.path_walks.specs.dir_blob.Directories.{HasEntries}
+use Rattle.path_walks.specs.Shows.{above}
 use Rattle.path_rows.specs.Changes.{Adding}
 use Rattle.path_rows.proofs.NewRow.{directory, map1, has_room_in, added}
 use Rattle.path_rows.proofs.made.add_row.Goals as goal

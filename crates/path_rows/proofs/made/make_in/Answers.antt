@@ -1,14 +1,14 @@
 use Rattle.std.proofs.Common.{◌≤◌, ◌+◌, ◌∷◌, length, Ok, ap, arith}
 use Rattle.std.proofs.lemmas.Result.{err_from_is_err_and}
-use Rattle.path_entries.specs.outcome.Outcome.{Outcome, first_, then_, idle, passed}
+use Rattle.path_walks.specs.store_outcome.Outcome.{Outcome, first_, then_, idle, passed}
 use Rattle.fs_model.specs.declared.error.FsError.TheVariants.{TooLarge}
 use Rattle.fs_model.specs.declared.limits.TheConstants.{MAX_ENTRIES}
 use Rattle.fs_model.specs.declared.reply.Reply.TheVariants.{Error}
 use Rattle.fs_model.specs.Tree.{Row, directory_size, entry_size}
-use Rattle.path_entries.specs.forest.Midst.{ids_with}
+use Rattle.path_walks.specs.Midst.{ids_with}
 use Rattle.path_rows.specs.Changes.{Making}
-use Rattle.path_entries.specs.forest.Showing.{IsShownBy}
-use Rattle.path_entries.proofs.path_walks_lemmas.Told.{made}
+use Rattle.path_walks.specs.Showing.{IsShownBy}
+use Rattle.path_walks.proofs.Told.{made}
 use Rattle.path_rows.proofs.NewRow.{body_size, too_large, adding, more, touching, made_done}
 use Rattle.path_rows.proofs.made.make_in.Goals as goal
 use Rattle.path_rows.proofs.made.make_in.Goals.{then-size-gt-MAX_ENTRIES-via-then-size-gt-MAX_ENTRIES, then-size-gt-MAX_ENTRIES-via-else-size-gt-MAX_ENTRIES+then-size-as_slice-gt-MAX_ENTRIES}

@@ -1,14 +1,14 @@
 use Rattle.std.proofs.Common.{[], ◌∷◌, ap, subst}
-use Rattle.path_entries.specs.outcome.Outcome.{then_, answered, idle, passed}
+use Rattle.path_walks.specs.store_outcome.Outcome.{then_, answered, idle, passed}
 use Rattle.fs_model.specs.declared.error.FsError.TheVariants.{Exists}
 use Rattle.fs_model.specs.declared.reply.Reply.TheVariants.{Error}
 use Rattle.fs_model.specs.Tree.{upward, root_row}
 use Rattle.fs_model.specs.LookUp.{Found, Bad, look}
 use Rattle.fs_model.specs.Step as model
 use Rattle.fs_model.proofs.LookUpLemmas.{look-found}
-use Rattle.path_entries.specs.path_walks.Sights.{HaveModes}
-use Rattle.path_entries.proofs.path_walks_lemmas.Told.{stays, told_as}
-use Rattle.path_entries.proofs.path_walks_lemmas.Seeing.{found, vacant, lost, look_found, look_lost, on_path}
+use Rattle.path_walks.specs.Sights.{HaveModes}
+use Rattle.path_walks.proofs.Told.{stays, told_as}
+use Rattle.path_walks.proofs.Seeing.{found, vacant, lost, look_found, look_lost, on_path}
 use Rattle.path_rows.proofs.NewRow.{making}
 use Rattle.path_rows.proofs.making.make.Goals as goal
 

@@ -1,9 +1,9 @@
 use Rattle.std.proofs.Common.{[], subst}
-use Rattle.path_entries.specs.outcome.Outcome.{Outcome}
+use Rattle.path_walks.specs.store_outcome.Outcome.{Outcome}
 use Rattle.fs_model.specs.Tree.{upward}
 use Rattle.fs_model.specs.LookUp.{look}
 use Rattle.fs_model.specs.Step.{made}
-use Rattle.path_entries.specs.forest.Showing.{BlobsShow, Performed}
+use Rattle.path_walks.specs.Showing.{BlobsShow, Performed}
 use Rattle.path_rows.proofs.making.make_file.Goals as goal
 
 pub returns-clause-outcome : goal.returns-clause-outcome

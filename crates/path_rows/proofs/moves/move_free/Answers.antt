@@ -1,14 +1,14 @@
 use Rattle.std.proofs.Common.{◌≡◌, ◌≤◌, length, Ok, refl, sym, ◌∙◌, ap, subst, arith, cond}
 use Rattle.std.proofs.lemmas.Result.{err_from_is_err_and}
-use Rattle.path_entries.specs.outcome.Outcome.{Outcome, first_, then_, idle, passed}
+use Rattle.path_walks.specs.store_outcome.Outcome.{Outcome, first_, then_, idle, passed}
 use Rattle.fs_model.specs.declared.limits.TheConstants.{MAX_ENTRIES}
 use Rattle.fs_model.specs.Names.{IsName}
 use Rattle.fs_model.specs.Tree.{directory_size, entry_size}
 use Rattle.fs_model.proofs.TreeLemmas.{same_name}
 use Rattle.fs_model.specs.declared.error.FsError.TheVariants.{TooLarge}
 use Rattle.fs_model.specs.declared.reply.Reply.TheVariants.{Error}
-use Rattle.path_entries.specs.forest.Showing.{IsShownBy}
-use Rattle.path_entries.proofs.path_walks_lemmas.Told.{made}
+use Rattle.path_walks.specs.Showing.{IsShownBy}
+use Rattle.path_walks.proofs.Told.{made}
 use Rattle.path_rows.specs.Moves.{Heading}
 use Rattle.path_rows.proofs.Heading.{next, body_size, size_next, too_large, moving, ids_next, shown_as, touching, moved_done}
 use Rattle.path_rows.proofs.moves.move_free.Goals as goal

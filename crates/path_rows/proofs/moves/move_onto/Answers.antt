@@ -1,9 +1,9 @@
 use Rattle.std.proofs.Common.{◌≡◌, Ok, ◌∙◌}
 use Rattle.std.proofs.lemmas.Result.{err_from_is_err_and}
-use Rattle.path_entries.specs.outcome.Outcome.{Outcome, first_, then_, passed}
-use Rattle.path_entries.specs.dir_entries.Layout.{body_of}
-use Rattle.path_entries.specs.dir_entries.Places.{without}
-use Rattle.path_entries.specs.forest.Showing.{IsShownBy}
+use Rattle.path_walks.specs.store_outcome.Outcome.{Outcome, first_, then_, passed}
+use Rattle.path_walks.specs.dir_entries.Layout.{body_of}
+use Rattle.path_walks.specs.dir_entries.Places.{without}
+use Rattle.path_walks.specs.Showing.{IsShownBy}
 use Rattle.path_rows.specs.Moves.{Replacing}
 use Rattle.path_rows.proofs.Replacing.{dropping, rest, target, present, heading, replaced_then}
 use Rattle.path_rows.proofs.moves.move_onto.Goals as goal

@@ -1,16 +1,16 @@
 use Rattle.std.proofs.Common.{Ok, ◌∷◌, refl, ◌∙◌, subst}
 use Rattle.std.proofs.lemmas.Result.{err_from_is_err_and}
-use Rattle.path_entries.specs.outcome.Outcome.{Outcome, first_, then_, failed_, passed, answered, idle}
+use Rattle.path_walks.specs.store_outcome.Outcome.{Outcome, first_, then_, failed_, passed, answered, idle}
 use Rattle.fs_model.specs.declared.error.FsError.TheVariants.{Busy}
 use Rattle.fs_model.specs.declared.reply.Reply.TheVariants.{Error}
 use Rattle.fs_model.specs.Tree.{upward, is_directory}
 use Rattle.fs_model.specs.LookUp.{Bad, Free}
-use Rattle.path_entries.specs.path_walks.declared.spots.Occupancy.{Occupancy}
-use Rattle.path_entries.specs.path_walks.Sights.{SightIs, IsFoundIn, HaveModes}
+use Rattle.path_walks.specs.declared.spots.Occupancy.{Occupancy}
+use Rattle.path_walks.specs.Sights.{SightIs, IsFoundIn, HaveModes}
 use Rattle.path_rows.specs.Onward.{Onward, RefusesOnto}
-use Rattle.path_entries.proofs.path_walks_lemmas.Told.{stays, told_as}
+use Rattle.path_walks.proofs.Told.{stays, told_as}
 use Rattle.path_rows.proofs.OnTheWay.{unnamed, it, not_to_root, going, standing, heading, going_onto, replacing}
-use Rattle.path_entries.proofs.path_walks_lemmas.Seeing.{found, vacant, lost, look_free, look_lost}
+use Rattle.path_walks.proofs.Seeing.{found, vacant, lost, look_free, look_lost}
 use Rattle.path_rows.proofs.moving.move_found.Goals as goal
 
 pub returns-in-None-clause-outcome : goal.returns-in-None-clause-outcome

@@ -1,6 +1,6 @@
 use Rattle.std.proofs.Common.{◌≡◌, ◌∷◌, true, false, refl, sym, ◌∙◌, ap, subst}
 use Rattle.std.proofs.lemmas.Bool.{eqb-true}
-use Rattle.path_entries.specs.outcome.Outcome.{then_, answered, idle, passed}
+use Rattle.path_walks.specs.store_outcome.Outcome.{then_, answered, idle, passed}
 use Rattle.fs_model.specs.declared.error.FsError.TheVariants.{Busy}
 use Rattle.fs_model.specs.declared.reply.Reply.TheVariants.{Error}
 use Rattle.fs_model.specs.Tree.{upward, same_path}
@@ -9,10 +9,10 @@ use Rattle.fs_model.specs.Step as model
 use Rattle.fs_model.specs.LookUp.{look}
 use Rattle.fs_model.proofs.LookUpLemmas.{look-found}
 use Rattle.fs_model.proofs.TreeLemmas.{same_path_is}
-use Rattle.path_entries.proofs.path_walks_lemmas.Commands.{reached_none}
-use Rattle.path_entries.specs.path_walks.Reaching.{ReachedIs, HaveRowModes}
-use Rattle.path_entries.proofs.path_walks_lemmas.Told.{stays, told_as}
-use Rattle.path_entries.proofs.path_walks_lemmas.Seeing.{on_row}
+use Rattle.path_walks.proofs.Commands.{reached_none}
+use Rattle.path_walks.specs.Reaching.{ReachedIs, HaveRowModes}
+use Rattle.path_walks.proofs.Told.{stays, told_as}
+use Rattle.path_walks.proofs.Seeing.{on_row}
 use Rattle.path_rows.proofs.OnTheWay.{no_names, not_empty, onward}
 use Rattle.path_rows.proofs.Steps.{to_root, not_root, from_by, onto_unless}
 use Rattle.path_rows.proofs.moving.move_row.Goals as goal

@@ -1,13 +1,13 @@
 use Rattle.std.proofs.Common.{true, false, cond, sym, ◌∙◌, ap}
 use Rattle.std.specs.declared.option.Option.TheVariants.{None, Some}
 use Rattle.std.proofs.lemmas.Result.{err_from_is_err_and}
-use Rattle.path_entries.specs.outcome.Outcome.{first_, passed, answered, idle}
+use Rattle.path_walks.specs.store_outcome.Outcome.{first_, passed, answered, idle}
 use Rattle.fs_model.specs.declared.attr.Attr.{Attr}
 use Rattle.fs_model.specs.declared.error.FsError.TheVariants.{NotDirectory, IsDirectory, NotEmpty}
 use Rattle.fs_model.specs.Tree.{is_directory}
 use Rattle.fs_model.specs.Step.{refused}
 use Rattle.fs_model.proofs.PutRows.{below_file}
-use Rattle.path_entries.proofs.forest_lemmas.Shown.{directory_is}
+use Rattle.path_walks.proofs.Shown.{directory_is}
 use Rattle.path_rows.proofs.Found.{childless}
 use Rattle.path_rows.proofs.Steps.{onto_by}
 use Rattle.path_rows.proofs.moving.refusal_onto.Goals as goal

@@ -1,14 +1,14 @@
 use Rattle.std.proofs.Common.{◌≡◌, Ok, true, false, cond, sym, ◌∙◌, ap}
 use Rattle.std.proofs.lemmas.Result.{err_from_is_err_and}
-use Rattle.path_entries.specs.outcome.Outcome.{Outcome, first_, then_, failed_, passed, answered, idle}
+use Rattle.path_walks.specs.store_outcome.Outcome.{Outcome, first_, then_, failed_, passed, answered, idle}
 use Rattle.fs_model.specs.declared.error.FsError.TheVariants.{NotDirectory, NotEmpty}
 use Rattle.fs_model.specs.declared.reply.Reply.TheVariants.{Done, Error}
 use Rattle.fs_model.specs.Tree.{is_directory}
 use Rattle.fs_model.specs.Step as model
-use Rattle.path_entries.specs.forest.Showing.{IsShownBy}
-use Rattle.path_entries.specs.path_walks.Sights.{Finding}
-use Rattle.path_entries.proofs.path_walks_lemmas.Told.{stays, told_as, made}
-use Rattle.path_entries.proofs.path_walks_lemmas.Found.{q, is_folder_by}
+use Rattle.path_walks.specs.Showing.{IsShownBy}
+use Rattle.path_walks.specs.Sights.{Finding}
+use Rattle.path_walks.proofs.Told.{stays, told_as, made}
+use Rattle.path_walks.proofs.Found.{q, is_folder_by}
 use Rattle.path_rows.proofs.Found.{folder, dropping, childless, rest, touching, removed}
 use Rattle.path_rows.proofs.Steps.{without, folder_by, folder_refused}
 use Rattle.path_rows.proofs.removing.drop_directory.Goals as goal

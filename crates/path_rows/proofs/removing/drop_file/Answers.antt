@@ -1,10 +1,10 @@
 use Rattle.std.proofs.Common.{true, false, sym, ◌∙◌}
 use Rattle.std.proofs.lemmas.Result.{err_from_is_err_and}
-use Rattle.path_entries.specs.outcome.Outcome.{first_, then_, idle, passed}
+use Rattle.path_walks.specs.store_outcome.Outcome.{first_, then_, idle, passed}
 use Rattle.fs_model.specs.declared.error.FsError.TheVariants.{IsDirectory}
 use Rattle.fs_model.specs.declared.reply.Reply.TheVariants.{Done, Error}
-use Rattle.path_entries.proofs.path_walks_lemmas.Told.{stays, told_as, made}
-use Rattle.path_entries.proofs.path_walks_lemmas.Found.{q, is_folder_by}
+use Rattle.path_walks.proofs.Told.{stays, told_as, made}
+use Rattle.path_walks.proofs.Found.{q, is_folder_by}
 use Rattle.path_rows.proofs.Found.{dropping, bare_file, touching, removed}
 use Rattle.path_rows.proofs.Steps.{file_by}
 use Rattle.path_rows.proofs.removing.drop_file.Goals as goal

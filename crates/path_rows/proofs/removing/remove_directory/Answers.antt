@@ -1,10 +1,10 @@
 use Rattle.std.proofs.Common.{refl, subst}
-use Rattle.path_entries.specs.outcome.Outcome.{passed}
+use Rattle.path_walks.specs.store_outcome.Outcome.{passed}
 use Rattle.fs_model.specs.declared.error.FsError.TheVariants.{Busy}
 use Rattle.fs_model.specs.Tree.{upward}
 use Rattle.fs_model.specs.Step as model
-use Rattle.path_entries.proofs.path_walks_lemmas.Commands.{reached_none, reached_row}
-use Rattle.path_entries.specs.path_walks.Reaching.{ReachedIs, HaveRowModes}
+use Rattle.path_walks.proofs.Commands.{reached_none, reached_row}
+use Rattle.path_walks.specs.Reaching.{ReachedIs, HaveRowModes}
 use Rattle.path_rows.proofs.removing.remove_directory.Goals as goal
 
 pub returns-in-Ok-Refused-clause-outcome : goal.returns-in-Ok-Refused-clause-outcome

@@ -1,4 +1,4 @@
-use Rattle.store_session.specs.store_api.Txs.{tx_meanings}
+use Rattle.memory_stores.specs.store_api.Txs.{tx_meanings}
 use Rattle.path_tests.proofs.tower.answer_each.Given as goal
 
 abbrev pub invariant-loop-line : goal.invariant-loop-line

@@ -1,5 +1,5 @@
 use Rattle.std.proofs.Common.{◌∷◌, ap}
-use Rattle.dir_blob.specs.outcome.Outcome.{answered, idle, passed}
+use Rattle.dir_blob.specs.store_outcome.Outcome.{answered, idle, passed}
 use Rattle.fs_model.specs.Tree.{upward}
 use Rattle.fs_model.specs.LookUp.{Bad, Free, look}
 use Rattle.path_walks.specs.declared.reaching.Reached.TheVariants.{Refused}

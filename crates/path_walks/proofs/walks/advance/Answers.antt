@@ -1,6 +1,6 @@
 use Rattle.std.proofs.Common.{refl, ◌∙◌, ap}
 use Rattle.std.proofs.lemmas.Result.{err_from_is_err_and}
-use Rattle.dir_blob.specs.outcome.Outcome.{first_, passed, answered, idle}
+use Rattle.dir_blob.specs.store_outcome.Outcome.{first_, passed, answered, idle}
 use Rattle.fs_model.specs.Tree.{is_directory}
 use Rattle.fs_model.specs.declared.error.FsError.TheVariants.{NotDirectory}
 use Rattle.dir_blob.specs.dir_entries.Places.{target_of}

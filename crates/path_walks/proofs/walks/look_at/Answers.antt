@@ -1,8 +1,8 @@
 use Rattle.std.proofs.Common.{ap, subst, Ok}
 use Rattle.std.proofs.lemmas.Result.{err_from_is_err_and}
-use Rattle.dir_blob.specs.outcome.Outcome.{Outcome, then_, failed_, answered}
+use Rattle.dir_blob.specs.store_outcome.Outcome.{Outcome, then_, failed_, answered}
 use Rattle.fs_model.specs.Tree.{upward, is_directory}
-use Rattle.forest.specs.Showing.{BlobsShow}
+use Rattle.path_walks.specs.Showing.{BlobsShow}
 use Rattle.path_walks.specs.Sights.{SightIs, sight_of}
 use Rattle.path_walks.proofs.Steps.{at_here, wrong_here, directory_seen, seen_under, no_folder}
 use Rattle.path_walks.proofs.walks.look_at.Goals as goal

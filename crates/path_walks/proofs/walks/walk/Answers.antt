@@ -1,7 +1,7 @@
 use Rattle.std.proofs.Common.{◌∙◌, subst, arith}
 use Rattle.std.proofs.lemmas.Result.{err_from_is_err_and}
 use Rattle.std.proofs.lemmas.List.{take_all}
-use Rattle.dir_blob.specs.outcome.Outcome.{then_, passed, answered}
+use Rattle.dir_blob.specs.store_outcome.Outcome.{then_, passed, answered}
 use Rattle.fs_model.specs.Tree.{upward}
 use Rattle.path_walks.specs.Sights.{SpotIs}
 use Rattle.path_walks.proofs.Steps.{names_on, walking}

@@ -1,7 +1,7 @@
 use Rattle.std.proofs.Common.{◌≡◌, take, Ok}
-use Rattle.dir_blob.specs.outcome.Outcome.{Outcome}
+use Rattle.dir_blob.specs.store_outcome.Outcome.{Outcome}
 use Rattle.fs_model.specs.Tree.{upward}
-use Rattle.forest.specs.Showing.{BlobsShow}
+use Rattle.path_walks.specs.Showing.{BlobsShow}
 use Rattle.path_walks.specs.Sights.{SpotIs, HasMode}
 use Rattle.path_walks.proofs.walks.walk.Given as goal
 

@@ -3,9 +3,9 @@ use Rattle.std.specs.Prelude.{IsSome}
 use Rattle.std.specs.FinMap as tree
 use Rattle.fs_model.specs.Tree.{Row, upward, is_root}
 use Rattle.fs_model.proofs.LookUpLemmas.{get-found}
-use Rattle.row_table.proofs.tree_rules_lemmas.PathLemmas.{not_root}
-use Rattle.row_table.specs.tree_rules.Changes.{changed_by}
-use Rattle.row_table.proofs.EditLemmas.{no_names}
+use Rattle.fs_model.proofs.PathLemmas.{not_root}
+use Rattle.fs_model.specs.Changes.{changed_by}
+use Rattle.plain_rows.proofs.EditLemmas.{no_names}
 use Rattle.plain_tree.proofs.StepLemmas.{any_names, there_of, set_there, set_after, bytes_are, same_row, attributes_done}
 use Rattle.plain_tree.proofs.Refusals.{root_step, attributes_refused}
 use Rattle.plain_tree.proofs.change.set_attributes.Goals as goal

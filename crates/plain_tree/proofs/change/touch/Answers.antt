@@ -4,8 +4,8 @@ use Rattle.std.specs.FinMap as tree
 use Rattle.fs_model.specs.Tree.{Row, upward}
 use Rattle.fs_model.specs.Step.{touched, with_moments}
 use Rattle.fs_model.proofs.Touches.{touched-none, touched-set}
-use Rattle.row_table.proofs.tree_rules_lemmas.PathLemmas.{not_root}
-use Rattle.row_table.proofs.EditLemmas.{no_names}
+use Rattle.fs_model.proofs.PathLemmas.{not_root}
+use Rattle.plain_rows.proofs.EditLemmas.{no_names}
 use Rattle.plain_tree.proofs.StepLemmas.{any_names, set_there, set_after, bytes_are, same_row}
 use Rattle.plain_tree.proofs.change.touch.Goals as goal
 

@@ -1,8 +1,8 @@
 use Rattle.std.proofs.Common.{sym, ◌∙◌, ap}
 use Rattle.fs_model.specs.Tree.{parent}
 use Rattle.fs_model.specs.Step.{touched}
-use Rattle.row_table.proofs.tree_rules_lemmas.PathLemmas.{parent_at}
-use Rattle.row_table.proofs.EditLemmas.{no_names}
+use Rattle.fs_model.proofs.PathLemmas.{parent_at}
+use Rattle.plain_rows.proofs.EditLemmas.{no_names}
 use Rattle.plain_tree.proofs.StepLemmas.{any_names}
 use Rattle.plain_tree.proofs.change.touch_above.Goals as goal
 

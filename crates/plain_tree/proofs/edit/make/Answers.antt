@@ -5,8 +5,8 @@ use Rattle.fs_model.specs.Tree.{upward, parent, directory_size, entry_size, root
 use Rattle.fs_model.specs.LookUp.{Found, Free}
 use Rattle.fs_model.specs.Step.{touched}
 use Rattle.fs_model.proofs.LookUpLemmas.{look-found}
-use Rattle.row_table.proofs.tree_rules_lemmas.PathLemmas.{not_root}
-use Rattle.row_table.proofs.EditLemmas.{no_names}
+use Rattle.fs_model.proofs.PathLemmas.{not_root}
+use Rattle.plain_rows.proofs.EditLemmas.{no_names}
 use Rattle.plain_tree.proofs.StepLemmas.{any_names, free_absent, made_new, made_large}
 use Rattle.plain_tree.proofs.edit.make.Goals as goal
 

@@ -1,8 +1,8 @@
 use Rattle.std.proofs.Common.{sym, ◌∙◌, ap}
 use Rattle.fs_model.specs.Tree.{parent, upward, is_root}
 use Rattle.fs_model.specs.Step.{touched}
-use Rattle.row_table.proofs.tree_rules_lemmas.PathLemmas.{not_root}
-use Rattle.row_table.proofs.EditLemmas.{no_names}
+use Rattle.fs_model.proofs.PathLemmas.{not_root}
+use Rattle.plain_rows.proofs.EditLemmas.{no_names}
 use Rattle.plain_tree.proofs.StepLemmas.{any_names, there_of, directory_gone, directory_full, no_directory}
 use Rattle.plain_tree.proofs.Refusals.{root_step, directory_refused}
 use Rattle.plain_tree.proofs.edit.remove_directory.Goals as goal

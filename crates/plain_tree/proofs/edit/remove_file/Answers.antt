@@ -1,8 +1,8 @@
 use Rattle.std.proofs.Common.{sym, ◌∙◌, ap}
 use Rattle.fs_model.specs.Tree.{parent, upward, is_root}
 use Rattle.fs_model.specs.Step.{touched}
-use Rattle.row_table.proofs.tree_rules_lemmas.PathLemmas.{not_root}
-use Rattle.row_table.proofs.EditLemmas.{no_names}
+use Rattle.fs_model.proofs.PathLemmas.{not_root}
+use Rattle.plain_rows.proofs.EditLemmas.{no_names}
 use Rattle.plain_tree.proofs.StepLemmas.{any_names, there_of, file_gone, no_file}
 use Rattle.plain_tree.proofs.Refusals.{root_step, removal_refused}
 use Rattle.plain_tree.proofs.edit.remove_file.Goals as goal

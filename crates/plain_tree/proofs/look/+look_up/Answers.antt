@@ -5,7 +5,7 @@ use Rattle.fs_model.specs.declared.error.FsError.TheVariants.{NotDirectory}
 use Rattle.fs_model.specs.Tree.{upward, is_directory, root_row}
 use Rattle.fs_model.specs.LookUp.{Free, Bad}
 use Rattle.fs_model.proofs.LookUpLemmas.{look-found}
-use Rattle.row_table.proofs.EditLemmas.{no_names}
+use Rattle.plain_rows.proofs.EditLemmas.{no_names}
 use Rattle.plain_tree.proofs.StepLemmas.{any_names, seen_above}
 use Rattle.plain_tree.proofs.look.+look_up.Goals as goal
 

@@ -3,7 +3,7 @@ use Rattle.std.specs.Prelude.{cond, IsSome, is_some}
 use Rattle.std.specs.FinMap as tree
 use Rattle.fs_model.specs.Tree.{upward, parent, is_directory}
 use Rattle.fs_model.specs.declared.attr.Attr.{Attr}
-use Rattle.row_table.specs.Moves.{IsBelowMoved}
+use Rattle.plain_rows.specs.Moves.{IsBelowMoved}
 use Rattle.plain_tree.specs.Moves.{held}
 use Rattle.plain_tree.proofs.CarryLemmas.{here_after, there_after, arrived_is, bare_held, leaf_held, there_held, let_go_is, is_there}
 use Rattle.plain_tree.proofs.moves.carry.Goals as goal

@@ -1,7 +1,7 @@
 use Rattle.std.proofs.Common.{refl, sym, ◌∙◌, ap, subst}
 use Rattle.fs_model.specs.Tree.{Row, upward}
 use Rattle.fs_model.specs.Step.{moved_to}
-use Rattle.row_table.proofs.tree_rules_lemmas.PathLemmas.{not_root}
+use Rattle.fs_model.proofs.PathLemmas.{not_root}
 use Rattle.plain_tree.specs.Answers.{IsAnswer}
 use Rattle.plain_tree.proofs.CarryLemmas.{is_move_free}
 use Rattle.plain_tree.proofs.MoveSteps.{answer_map, whole_step, whole_invalid, whole_bad, whole_refused}

@@ -1,5 +1,5 @@
 use Rattle.std.proofs.Common.{true, sym, ◌∙◌}
-use Rattle.row_table.proofs.tree_rules_lemmas.PathLemmas.{some_names}
+use Rattle.fs_model.proofs.PathLemmas.{some_names}
 use Rattle.plain_tree.proofs.CarryLemmas.{left_is, none_left}
 use Rattle.plain_tree.proofs.moves.size_left.Goals as goal
 

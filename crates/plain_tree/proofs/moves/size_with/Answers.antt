@@ -1,7 +1,7 @@
 use Rattle.std.proofs.Common.{◌≡◌, sym, ◌∙◌, ap, arith}
 use Rattle.std.specs.Prelude.{cond}
 use Rattle.fs_model.specs.Tree.{upward, parent, last_name, entry_size, directory_size}
-use Rattle.row_table.proofs.tree_rules_lemmas.PathLemmas.{some_names, parent_at}
+use Rattle.fs_model.proofs.PathLemmas.{some_names, parent_at}
 use Rattle.plain_tree.proofs.moves.size_with.Goals as goal
 
 pub returns-then-replaces : goal.returns-then-replaces

@@ -1,6 +1,6 @@
 use Rattle.std.proofs.Common.{[], ◌∙◌, refl, sym, ap, subst}
 use Rattle.std.specs.declared.result.Result.TheVariants.{Ok, Err}
-use Rattle.row_copy.specs.copy_rules.declared.copied.CopyFail.TheVariants as fail
+use Rattle.copy_row.specs.copy_laws.declared.copied.CopyFail.TheVariants as fail
 use Rattle.tree_copy.specs.Copies.{fail_of}
 use Rattle.tree_copy.specs.Exports.{IsOutAt, TreeEntered}
 use Rattle.tree_copy.specs.Levels.{todo_of, Goes}

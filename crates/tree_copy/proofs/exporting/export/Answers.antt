@@ -2,10 +2,10 @@ use Rattle.std.proofs.Common.{refl, sym, subst}
 use Rattle.std.specs.Prelude.{IfSome}
 use Rattle.std.specs.declared.result.Result.TheVariants.{Err}
 use Rattle.fs_model.specs.declared.error.FsError.TheVariants.{NotEmpty}
-use Rattle.row_copy.specs.host_folder.Folders.{IsHostTree}
-use Rattle.row_copy.specs.copy_rules.declared.copied.CopyFail.TheVariants as fail
-use Rattle.row_copy.specs.copy_rules.Ends.{HostCause}
-use Rattle.row_copy.specs.copy_rules.Exporting.{IsBare}
+use Rattle.copy_row.specs.host_folder.Folders.{IsHostTree}
+use Rattle.copy_row.specs.copy_laws.declared.copied.CopyFail.TheVariants as fail
+use Rattle.copy_row.specs.copy_laws.Ends.{HostCause}
+use Rattle.copy_row.specs.copy_laws.Exporting.{IsBare}
 use Rattle.tree_copy.specs.Exports.{BareIs}
 use Rattle.tree_copy.proofs.Stepping.{run_begun, run_idle}
 use Rattle.tree_copy.proofs.Turning.{memory_quiet, failed_rose}

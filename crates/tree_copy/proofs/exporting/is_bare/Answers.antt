@@ -1,6 +1,6 @@
 use Rattle.std.proofs.Common.{◌≡◌, ◌<◌, length, ap, subst, arith}
 use Rattle.std.specs.Prelude.{IfSome}
-use Rattle.row_copy.specs.host_folder.Folders.{AreRowsOf}
+use Rattle.copy_row.specs.host_folder.Folders.{AreRowsOf}
 use Rattle.tree_copy.proofs.Stepping.{bare_told, rows_told}
 use Rattle.tree_copy.proofs.exporting.is_bare.Goals as goal
 

@@ -1,7 +1,7 @@
 use Rattle.std.proofs.Common.{Bool, [], ◌∙◌, refl, sym, ap, subst}
 use Rattle.std.specs.Prelude.{IfSome}
 use Rattle.std.specs.declared.result.Result.TheVariants.{Ok, Err}
-use Rattle.row_copy.specs.copy_rules.declared.copied.CopyFail.TheVariants as fail
+use Rattle.copy_row.specs.copy_laws.declared.copied.CopyFail.TheVariants as fail
 use Rattle.tree_copy.specs.Copies.{IsAt}
 use Rattle.tree_copy.specs.Levels.{todo_of, AreKnown, Goes, IsEntered}
 use Rattle.tree_copy.proofs.Places.{at_end, at_memory, failed_run}

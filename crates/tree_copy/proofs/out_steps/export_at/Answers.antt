@@ -1,7 +1,7 @@
 use Rattle.std.proofs.Common.{◌≡◌, inl, inr, ◌∙◌, refl, subst}
 use Rattle.std.specs.declared.result.Result.TheVariants.{Err}
 use Rattle.fs_model.specs.declared.attr.Kind.TheVariants.{Directory, File, Link}
-use Rattle.row_copy.specs.copy_rules.Ends.{HostCause, StopCause, text_size}
+use Rattle.copy_row.specs.copy_laws.Ends.{HostCause, StopCause, text_size}
 use Rattle.tree_copy.specs.Levels.{todo_of}
 use Rattle.tree_copy.proofs.Stepping.{out_long, out_row_fails, out_leaf, out_unlisted, out_entered}
 use Rattle.tree_copy.proofs.Turning.{short_of, long_of, host_fails, stop_fails}

@@ -1,7 +1,7 @@
 use Rattle.std.proofs.Common.{◌≡◌, inl, inr, ◌<◌, ◌∙◌, refl, sym, subst}
 use Rattle.fs_model.specs.declared.attr.Kind.TheVariants.{Directory, File, Link}
-use Rattle.row_copy.specs.copy_rules.declared.copied.CopyFail.TheVariants as fail
-use Rattle.row_copy.specs.copy_rules.Ends.{text_size}
+use Rattle.copy_row.specs.copy_laws.declared.copied.CopyFail.TheVariants as fail
+use Rattle.copy_row.specs.copy_laws.Ends.{text_size}
 use Rattle.tree_copy.specs.Copies.{Failed}
 use Rattle.tree_copy.specs.Levels.{todo_of}
 use Rattle.tree_copy.proofs.Places.{at_long}

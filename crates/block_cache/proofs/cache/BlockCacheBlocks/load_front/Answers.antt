@@ -1,6 +1,6 @@
 use Rattle.std.proofs.Common.{◌≡◌, ◌∙◌, ap, sym, length, min, take, Some}
 use Rattle.std.proofs.lemmas.List.{take_min, length-take}
-use Rattle.store_api.specs.outcome.Outcome.{answered}
+use Rattle.store_api.specs.store_outcome.Outcome.{answered}
 use Rattle.store_api.specs.Fronts.{front_of}
 use Rattle.block_cache.specs.Payloads.{cached_for}
 use Rattle.block_cache.proofs.Caching.{outcome-cached}

@@ -1,10 +1,10 @@
 use Rattle.std.proofs.Common.{refl, sym, subst, ◌∷◌, []}
 use Rattle.std.specs.declared.option.Option.TheVariants.{Some}
 use Rattle.std.specs.declared.result.Result.TheVariants.{Err}
-use Rattle.tree_copy.specs.copy_rules.declared.asker.Stopped.{Stopped}
-use Rattle.file_copies.specs.copy_sessions.Fitting.{WentBy}
-use Rattle.file_copies.proofs.copy_sessions_lemmas.Asked.{one_reply, one_stop}
-use Rattle.shell_sessions.specs.Mounting.{mounted_hosting}
+use Rattle.tree_copy.specs.copy_laws.declared.asker.Stopped.{Stopped}
+use Rattle.copy_file.specs.copy_sessions.Fitting.{WentBy}
+use Rattle.copy_file.proofs.copy_sessions_lemmas.Asked.{one_reply, one_stop}
+use Rattle.shell_runs.specs.Mounting.{mounted_hosting}
 use Rattle.copy_runs.proofs.Formed.{of_reply}
 use Rattle.copy_runs.proofs.asker.MountAskerAsker.ask.Goals as goal
 

@@ -5,7 +5,7 @@ use Rattle.std.specs.Option.{option_map}
 use Rattle.std.proofs.lemmas.Option.{slice_get-map}
 use Rattle.fs_model.specs.Tree.{Path}
 use Rattle.check_rules.specs.store_api.Content.{Id}
-use Rattle.check_rules.specs.block_walk.Marks.{mark_entry}
+use Rattle.check_rules.specs.check_walk.Marks.{mark_entry}
 use Rattle.cryfs_check.specs.declared.place.Place.{Place}
 use Rattle.cryfs_check.specs.Places.{places_text, paths_of}
 use Rattle.cryfs_check.proofs.owners.Owners.path.Goals as goal

@@ -1,28 +1,28 @@
 use Rattle.std.proofs.Common.{◌≡◌, List, refl, sym, ◌∙◌, ap, subst, arith}
 use Rattle.std.specs.Prelude.{Option}
-use Rattle.batch_sealing.specs.outcome.Meanings.{Meanings}
+use Rattle.block_versions.specs.store_outcome.Meanings.{Meanings}
 use Rattle.outside.specs.Honest.{is_lie, count_told}
 use Rattle.outside.specs.Trace.{Call}
 use Rattle.rand_core.specs.Stream.{Stream}
-use Rattle.batch_sealing.specs.store_api.Applying.{AppliesNone, KeepsCounts}
-use Rattle.batch_sealing.specs.store_api.Draws.{IsLater}
-use Rattle.batch_sealing.proofs.store_api_lemmas.Draws.{later_same}
-use Rattle.batch_sealing.specs.held_blocks.Forgeries.{forged}
-use Rattle.batch_sealing.specs.held_blocks.ReadLaws.{went_same}
-use Rattle.batch_sealing.specs.held_blocks.Reads.{WentOnByReads}
-use Rattle.batch_sealing.specs.held_blocks.Soundness.{SoundBy}
-use Rattle.batch_sealing.specs.held_blocks.Stores.{meanings_by}
+use Rattle.store_api.specs.Applying.{AppliesNone, KeepsCounts}
+use Rattle.store_api.specs.Draws.{IsLater}
+use Rattle.store_api.proofs.Draws.{later_same}
+use Rattle.block_versions.specs.Forgeries.{forged}
+use Rattle.block_versions.specs.ReadLaws.{went_same}
+use Rattle.block_versions.specs.Reads.{WentOnByReads}
+use Rattle.block_versions.specs.Soundness.{SoundBy}
+use Rattle.block_versions.specs.Stores.{meanings_by}
 use Rattle.outside.specs.Changes.{IsIncreasing}
 use Rattle.outside.specs.ChangeLaws.{IsIncreasing-set_changes}
-use Rattle.batch_sealing.specs.sealed_store.Stores.{IsIntact, block_size_of, cipher_of}
-use Rattle.block_batch.specs.Entries.{entries_of}
+use Rattle.block_versions.specs.sealed_store.Stores.{IsIntact, block_size_of, cipher_of}
+use Rattle.store_api.specs.Entries.{entries_of}
 use Rattle.integrity_store.specs.declared.store.IntegrityStore.{IntegrityStore}
-use Rattle.batch_sealing.specs.held_blocks.Held.{Held}
+use Rattle.block_versions.specs.Held.{Held}
 use Rattle.integrity_store.specs.Views.{held_by}
 use Rattle.integrity_store.specs.WaitingLaws.{in_order}
-use Rattle.batch_sealing.specs.Applied.{applied_by}
-use Rattle.batch_sealing.proofs.Applying.{may_seal_batch, applied_nothing}
-use Rattle.batch_sealing.proofs.Batches.{is_spent, isnt_spent, Listed, may_come_listed, room, Marked, applied_batch, drawn_in, whole_batch, changed_batch}
+use Rattle.integrity_store.specs.Applied.{applied_by}
+use Rattle.integrity_store.proofs.Applying.{may_seal_batch, applied_nothing}
+use Rattle.integrity_store.proofs.Batches.{is_spent, isnt_spent, Listed, may_come_listed, room, Marked, applied_batch, drawn_in, whole_batch, changed_batch}
 use Rattle.integrity_store.proofs.apply.IntegrityStoreBlocksMut.apply.Given.{Over}
 use Rattle.integrity_store.proofs.apply.IntegrityStoreBlocksMut.apply.Goals as goal
 

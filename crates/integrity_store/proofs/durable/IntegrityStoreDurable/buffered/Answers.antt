@@ -3,8 +3,8 @@ use Rattle.std.specs.Prelude.{sum_by}
 use Rattle.std.specs.declared.option.Option.TheVariants.{None, Some}
 use Rattle.std.proofs.lemmas.List.Sums.{sum_by-cons}
 use Rattle.outside.specs.Changes.{FileChanges}
-use Rattle.batch_sealing.specs.redo_vault.Redo.{bytes_len}
-use Rattle.batch_sealing.specs.store_api.Lists.{waiting_bytes}
+use Rattle.block_versions.specs.redo_vault.Redo.{bytes_len}
+use Rattle.store_api.specs.Lists.{waiting_bytes}
 use Rattle.integrity_store.proofs.durable.IntegrityStoreDurable.buffered.Goals as goal
 
 same_sum : (list : FileChanges) → sum_by (λ change. bytes_len change.1) list ≡ waiting_bytes list

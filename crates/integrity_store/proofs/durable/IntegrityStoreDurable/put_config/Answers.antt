@@ -1,11 +1,11 @@
 use Rattle.std.proofs.Common.{◌≡◌, refl, sym, ◌∙◌, ap, subst}
 use Rattle.outside.specs.Honest.{is_lie, count_told}
-use Rattle.batch_sealing.specs.sealed_store.Stores.{Sealed, IsIntact, block_size_of, cipher_of}
-use Rattle.batch_sealing.specs.held_blocks.Forgeries.{forged}
-use Rattle.batch_sealing.specs.held_blocks.Held.{Held}
-use Rattle.batch_sealing.specs.held_blocks.Soundness.{SoundBy}
-use Rattle.batch_sealing.specs.held_blocks.Stores.{IsWhole}
-use Rattle.batch_sealing.specs.held_blocks.Views.{held_of}
+use Rattle.block_versions.specs.sealed_store.Stores.{Sealed, IsIntact, block_size_of, cipher_of}
+use Rattle.block_versions.specs.Forgeries.{forged}
+use Rattle.block_versions.specs.Held.{Held}
+use Rattle.block_versions.specs.Soundness.{SoundBy}
+use Rattle.block_versions.specs.Stores.{IsWhole}
+use Rattle.block_versions.specs.Views.{held_of}
 use Rattle.integrity_store.specs.declared.store.IntegrityStore.{IntegrityStore}
 use Rattle.integrity_store.specs.Views.{held_by}
 use Rattle.integrity_store.proofs.OneWrite.{with_list}

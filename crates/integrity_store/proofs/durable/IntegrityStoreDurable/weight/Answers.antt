@@ -3,8 +3,8 @@ use Rattle.std.specs.Prelude.{sum_by}
 use Rattle.std.specs.declared.option.Option.TheVariants.{None, Some}
 use Rattle.std.proofs.lemmas.List.Sums.{sum_by-cons}
 use Rattle.outside.specs.Changes.{FileChanges}
-use Rattle.batch_sealing.specs.redo_vault.Redo.{len_with}
-use Rattle.batch_sealing.specs.store_api.Lists.{waiting_weight}
+use Rattle.block_versions.specs.redo_vault.Redo.{len_with}
+use Rattle.store_api.specs.Lists.{waiting_weight}
 use Rattle.integrity_store.proofs.durable.IntegrityStoreDurable.weight.Goals as goal
 
 same_weight : (list : FileChanges) → sum_by (λ change. len_with 64 change.1) list ≡ waiting_weight list

@@ -1,8 +1,8 @@
 use Rattle.std.proofs.Common.{◌-◌, refl, sym, ◌∙◌, ap, subst}
 use Rattle.std.specs.FinMap as fin
-use Rattle.batch_sealing.specs.sealed_store.Stores.{Sealed, IsIntact, block_size_of, cipher_of}
-use Rattle.batch_sealing.specs.held_blocks.Views.{held_of}
-use Rattle.batch_sealing.proofs.held_blocks_lemmas.Loading.{live_wanted}
+use Rattle.block_versions.specs.sealed_store.Stores.{Sealed, IsIntact, block_size_of, cipher_of}
+use Rattle.block_versions.specs.Views.{held_of}
+use Rattle.block_versions.proofs.Loading.{live_wanted}
 use Rattle.integrity_store.specs.Views.{held_by}
 use Rattle.integrity_store.proofs.WriteOuts.{Written, written}
 use Rattle.integrity_store.proofs.durable.IntegrityStoreDurable.write_out.Given.{Over}

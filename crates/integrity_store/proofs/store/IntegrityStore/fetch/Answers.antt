@@ -1,11 +1,11 @@
 use Rattle.std.proofs.Common.{rules, ◌≡◌, ◌+◌, ◌-◌, ◌^◌, min, refl, ◌∙◌, ap, subst, arith}
 use Rattle.std.specs.declared.result.Result.TheVariants.{Err}
 use Rattle.block_id.specs.declared.fail.Fail.TheVariants.{Memory, Fault}
-use Rattle.batch_sealing.specs.sealed_store.BlockFiles.{front_seen, seen_file_in}
-use Rattle.batch_sealing.specs.sealed_store.Stores.{Unseen}
-use Rattle.batch_sealing.specs.held_blocks.Held.{waiting}
-use Rattle.batch_sealing.specs.held_blocks.Loads.{FetchedFront, fetched_of}
-use Rattle.batch_sealing.proofs.held_blocks_lemmas.Fronts.{answer_by, fetched_front}
+use Rattle.block_versions.specs.sealed_store.BlockFiles.{front_seen, seen_file_in}
+use Rattle.block_versions.specs.sealed_store.Stores.{Unseen}
+use Rattle.block_versions.specs.Held.{waiting}
+use Rattle.block_versions.specs.Loads.{FetchedFront, fetched_of}
+use Rattle.block_versions.proofs.HeldBlocksFronts.{answer_by, fetched_front}
 use Rattle.integrity_store.specs.Views.{held_by}
 use Rattle.integrity_store.proofs.store.IntegrityStore.fetch.Goals as goal
 

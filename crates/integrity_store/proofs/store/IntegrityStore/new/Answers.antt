@@ -1,9 +1,9 @@
 use Rattle.std.proofs.Common.{refl}
-use Rattle.batch_sealing.specs.held_blocks.Views.{held_of}
-use Rattle.batch_sealing.proofs.held_blocks_lemmas.Reopening.{opened_stands, few_used}
-use Rattle.batch_sealing.proofs.held_blocks_lemmas.Untouched.{untouched_sound}
+use Rattle.block_versions.specs.Views.{held_of}
+use Rattle.block_versions.proofs.Reopening.{opened_stands, few_used}
+use Rattle.block_versions.proofs.Untouched.{untouched_sound}
 use Rattle.local_state.specs.Record.{plain_state}
-use Rattle.batch_sealing.specs.sealed_store.Stores.{cipher_of, key_of}
+use Rattle.block_versions.specs.sealed_store.Stores.{cipher_of, key_of}
 use Rattle.integrity_store.proofs.store.IntegrityStore.new.Goals as goal
 
 pub returns-clause-intact : goal.returns-clause-intact

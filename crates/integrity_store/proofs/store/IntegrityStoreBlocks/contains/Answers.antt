@@ -1,9 +1,9 @@
 use Rattle.std.proofs.Common.{◌∙◌}
 use Rattle.std.specs.FinMap as fin
-use Rattle.batch_sealing.specs.block_records.BlockRecords.{payload_in}
-use Rattle.batch_sealing.specs.held_blocks.Held.{file_of, told_or_none}
+use Rattle.block_versions.specs.BlockRecords.{payload_in}
+use Rattle.block_versions.specs.Held.{file_of, told_or_none}
 use Rattle.integrity_store.specs.Views.{held_by}
-use Rattle.batch_sealing.proofs.held_blocks_lemmas.Loading.{live_wanted}
+use Rattle.block_versions.proofs.Loading.{live_wanted}
 use Rattle.integrity_store.proofs.store.IntegrityStoreBlocks.contains.Goals as goal
 
 pub returns : goal.returns

@@ -1,4 +1,4 @@
-use Rattle.batch_sealing.proofs.held_blocks_lemmas.Freshness.{first_free}
+use Rattle.block_versions.proofs.Freshness.{first_free}
 use Rattle.integrity_store.proofs.store.IntegrityStoreBlocks.fresh.Goals as goal
 
 pub returns : goal.returns

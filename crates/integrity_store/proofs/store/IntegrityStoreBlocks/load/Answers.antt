@@ -1,17 +1,17 @@
 use Rattle.std.proofs.Common.{◌≡◌, ◌-◌, ◌^◌, ap, arith, sym}
 use Rattle.std.specs.declared.option.Option.TheVariants.{None, Some}
 use Rattle.std.specs.declared.result.Result.TheVariants.{Ok, Err}
-use Rattle.batch_sealing.specs.sealed_store.Stores.{IsIntact, block_size_of, cipher_of}
+use Rattle.block_versions.specs.sealed_store.Stores.{IsIntact, block_size_of, cipher_of}
 use Rattle.integrity_store.specs.declared.store.IntegrityStore.{IntegrityStore}
-use Rattle.batch_sealing.specs.block_records.BlockRecords.{payload_in}
-use Rattle.batch_sealing.specs.held_blocks.Held.{file_of, live_version, told_or_none, where_live}
-use Rattle.batch_sealing.specs.held_blocks.StoreLaws.{lawful_by}
-use Rattle.batch_sealing.specs.outcome.Outcome.{idle}
-use Rattle.batch_sealing.specs.held_blocks.Loads.{Fetched}
-use Rattle.batch_sealing.proofs.held_blocks_lemmas.Fetches.{fetched_len, loads_none, loads_ok, loads_err}
-use Rattle.batch_sealing.proofs.held_blocks_lemmas.Fronts.{fetched_whole}
+use Rattle.block_versions.specs.BlockRecords.{payload_in}
+use Rattle.block_versions.specs.Held.{file_of, live_version, told_or_none, where_live}
+use Rattle.block_versions.specs.StoreLaws.{lawful_by}
+use Rattle.block_versions.specs.store_outcome.Outcome.{idle}
+use Rattle.block_versions.specs.Loads.{Fetched}
+use Rattle.block_versions.proofs.Fetches.{fetched_len, loads_none, loads_ok, loads_err}
+use Rattle.block_versions.proofs.HeldBlocksFronts.{fetched_whole}
 use Rattle.integrity_store.specs.Views.{held_by}
-use Rattle.batch_sealing.proofs.held_blocks_lemmas.Loading.{stays, loaded_ok, loaded_err}
+use Rattle.block_versions.proofs.Loading.{stays, loaded_ok, loaded_err}
 use Rattle.integrity_store.proofs.store.IntegrityStoreBlocks.load.Given.{Over}
 use Rattle.integrity_store.proofs.store.IntegrityStoreBlocks.load.Goals as goal
 

@@ -1,15 +1,15 @@
 use Rattle.std.proofs.Common.{◌≡◌, ap, sym}
 use Rattle.std.specs.declared.option.Option.TheVariants.{None, Some}
 use Rattle.std.specs.declared.result.Result.TheVariants.{Ok, Err}
-use Rattle.batch_sealing.specs.sealed_store.Stores.{IsIntact, block_size_of, cipher_of}
+use Rattle.block_versions.specs.sealed_store.Stores.{IsIntact, block_size_of, cipher_of}
 use Rattle.integrity_store.specs.declared.store.IntegrityStore.{IntegrityStore}
-use Rattle.batch_sealing.specs.block_records.BlockRecords.{payload_in}
-use Rattle.batch_sealing.specs.held_blocks.Held.{file_of, live_version, told_or_none, where_live}
-use Rattle.batch_sealing.specs.held_blocks.StoreLaws.{lawful_by}
-use Rattle.batch_sealing.specs.outcome.Outcome.{idle}
-use Rattle.batch_sealing.specs.store_api.Fronts.{front_of}
-use Rattle.batch_sealing.proofs.held_blocks_lemmas.Fetches.{fetched_of_blocks}
-use Rattle.batch_sealing.proofs.held_blocks_lemmas.Fronts.{front_err, front_failed, front_len, front_ok, front_stays}
+use Rattle.block_versions.specs.BlockRecords.{payload_in}
+use Rattle.block_versions.specs.Held.{file_of, live_version, told_or_none, where_live}
+use Rattle.block_versions.specs.StoreLaws.{lawful_by}
+use Rattle.block_versions.specs.store_outcome.Outcome.{idle}
+use Rattle.store_api.specs.Fronts.{front_of}
+use Rattle.block_versions.proofs.Fetches.{fetched_of_blocks}
+use Rattle.block_versions.proofs.HeldBlocksFronts.{front_err, front_failed, front_len, front_ok, front_stays}
 use Rattle.integrity_store.specs.Views.{held_by}
 use Rattle.integrity_store.proofs.store.IntegrityStoreBlocks.load_front.Goals as goal
 

@@ -1,7 +1,7 @@
 use Rattle.std.proofs.Common.{refl, sym, ◌∙◌, ap}
 use Rattle.std.specs.Prelude.{Some, None}
-use Rattle.block_batch.specs.Entries.{change_view}
-use Rattle.outcome.specs.Outcome.{first_, idle}
+use Rattle.store_api.specs.Entries.{change_view}
+use Rattle.store_outcome.specs.Outcome.{first_, idle}
 use Rattle.store_api.specs.declared.tx.Tx.{Tx}
 use Rattle.store_api.specs.Content.{or_else}
 use Rattle.store_api.specs.Overlay.{called_over}

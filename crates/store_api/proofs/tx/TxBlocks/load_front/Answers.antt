@@ -1,5 +1,5 @@
 use Rattle.std.proofs.Common.{refl, sym, ◌∙◌, ap}
-use Rattle.outcome.specs.Outcome.{first_}
+use Rattle.store_outcome.specs.Outcome.{first_}
 use Rattle.store_api.specs.declared.tx.Tx.{Tx}
 use Rattle.store_api.specs.Content.{or_else}
 use Rattle.store_api.specs.Fronts.{front_of}

@@ -1,4 +1,4 @@
-use Rattle.block_cache.specs.outcome.Lift.{lifted_with}
+use Rattle.block_cache.specs.store_outcome.Lift.{lifted_with}
 use Rattle.store_tests.specs.declared.counted.Counted.{Counted}
 use Rattle.store_tests.proofs.counted.CountedBlocks.load.Goals as goal
 

@@ -1,9 +1,0 @@
-pub mod Bytes
-pub mod Lanes
-pub mod Spread
-pub mod Swaps
-pub mod Circuits
-pub mod SBox
-pub mod Blocks
-pub mod Steps
-pub mod MixColumns

@@ -1,4 +1,0 @@
-pub mod Circuit
-pub mod SBox
-pub mod Planes
-pub mod Swaps

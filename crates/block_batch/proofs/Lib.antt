@@ -1,2 +1,0 @@
-mod Drafts
-mod Places

@@ -1,9 +1,0 @@
-use Rattle.std.proofs.Common.{sym, ◌∙◌, ap}
-use Rattle.std.specs.FinMap.{entries-from_sorted}
-use Rattle.std.specs.FinMap as fin
-use Rattle.block_batch.specs.Changes.{id_cmp}
-use Rattle.block_batch.specs.Entries.{entries_of}
-use Rattle.block_batch.proofs.batch.Batch.entries.Goals as goal
-
-pub returns : goal.returns
-returns c = ap entries_of c.deref.ensures.value ∙ sym (entries-from_sorted id_cmp (entries_of c.self.inside.entries.items) c.self.invariant) ∙ ap fin.entries c.self.view_is

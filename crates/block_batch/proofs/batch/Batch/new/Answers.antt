@@ -1,7 +1,0 @@
-use Rattle.std.proofs.Common.{◌∙◌, ap}
-use Rattle.block_batch.specs.Entries.{changes_of}
-use Rattle.block_batch.proofs.Places.{no_changes}
-use Rattle.block_batch.proofs.batch.Batch.new.Goals as goal
-
-pub returns : goal.returns
-returns c = ap changes_of c.new.ensures.items ∙ no_changes

@@ -1,9 +1,0 @@
-use Rattle.std.proofs.Common.{None}
-use Rattle.block_batch.proofs.Places.{kept-sorted, kept-changes}
-use Rattle.block_batch.proofs.batch.Batch.remove.Goals as goal
-
-pub invariant_of-self : goal.invariant_of-self
-invariant_of-self c = kept-sorted c.set.result c.self.inside.entries.items c.set.new.entries.items c.args.id.now.0 (None) c.self.invariant c.set.ensures.ok c.set.ensures.err
-
-pub returns-clause-ok : goal.returns-clause-ok
-returns-clause-ok c = kept-changes c.set.result c.args.self.now c.self.inside.entries.items c.set.new.entries.items c.args.id.now.0 (None) c.self.view_is c.self.invariant c.set.ensures.ok

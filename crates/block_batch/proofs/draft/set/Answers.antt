@@ -1,7 +1,0 @@
-use Rattle.std.proofs.Common.{◌∙◌, ap}
-use Rattle.block_batch.specs.Entries.{entries_of}
-use Rattle.block_batch.proofs.Drafts.{entries-insert_entry}
-use Rattle.block_batch.proofs.draft.set.Goals as goal
-
-pub returns-clause-ok : goal.returns-clause-ok
-returns-clause-ok c = ap entries_of c.in_ok-insert.ensures.entries ∙ entries-insert_entry c.args.tree.now.entries c.args.id.now c.args.change

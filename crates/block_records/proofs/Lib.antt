@@ -1,3 +1,0 @@
-mod Fronts
-pub mod Judging
-pub mod Records

@@ -1,7 +1,0 @@
-use Rattle.std.proofs.Common.{ap}
-use Rattle.block_survey.specs.Surveys.{refusal_of}
-use Rattle.block_survey.proofs.Surveying.{map_kept}
-use Rattle.block_survey.proofs.exploring.name_block.Goals as goal
-
-pub returns-in_ok-names-in-Ok : goal.returns-in_ok-names-in-Ok
-returns-in_ok-names-in-Ok c = record { same = map_kept refusal_of c.args.refused.now.items c.in-Ok.i _ _ (ap refusal_of c.index_mut.ensures.value) }

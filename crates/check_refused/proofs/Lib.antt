@@ -1,0 +1,2 @@
+pub mod Surveying
+mod Tables

@@ -1,0 +1,23 @@
+use Rattle.std.proofs.Common.{refl, ◌∙◌}
+use Rattle.check_refused.proofs.Surveying.{surveys_none, surveys_then, surveys_wants}
+use Rattle.check_refused.proofs.finding.explore_places.Goals as goal
+
+pub loop-number-init : goal.loop-number-init
+loop-number-init g c = record { surveys = surveys_none g.met.B.Blocks.lawful c.args.store.now c.requires.intact; same = refl }
+
+pub loop-number-preserved : goal.loop-number-preserved
+loop-number-preserved g c =
+    let inv = c.loop-number.invariant in
+    record { surveys = surveys_then g.met.B.Blocks.lawful inv.surveys c.in-Ok-explore_blob.ensures.surveys; same = c.explore_blob.ensures.same ∙ inv.same }
+
+pub returns-in-Err-explore_blob-clause-surveys : goal.returns-in-Err-explore_blob-clause-surveys
+returns-in-Err-explore_blob-clause-surveys g c = surveys_then g.met.B.Blocks.lawful c.loop-number.invariant.surveys c.in-Err-explore_blob.ensures.surveys
+
+pub returns-in-Err-explore_blob-clause-same : goal.returns-in-Err-explore_blob-clause-same
+returns-in-Err-explore_blob-clause-same g c = c.explore_blob.ensures.same ∙ c.loop-number.invariant.same
+
+pub returns-in-Err-clause-surveys : goal.returns-in-Err-clause-surveys
+returns-in-Err-clause-surveys g c = surveys_wants c.loop-number.invariant.surveys
+
+pub returns-clause-surveys : goal.returns-clause-surveys
+returns-clause-surveys g c = surveys_wants c.loop-number.invariant.surveys

@@ -1,0 +1,7 @@
+use Rattle.std.proofs.Common.{[], ◌∷◌}
+use Rattle.fs_model.specs.declared.command.Command.TheVariants.{Write}
+use Rattle.copy_row.proofs.Chains.{none_memory}
+use Rattle.copy_row.proofs.bytes.write_piece.Goals as goal
+
+pub returns-in-Err-clause-asks : goal.returns-in-Err-clause-asks
+returns-in-Err-clause-asks g c = none_memory g.A.Asker.asking g.met.A.Asker.lawful c.args.asker.now c.args.to.now (Write c.args.to.now c.args.place c.args.piece.items ∷ [])

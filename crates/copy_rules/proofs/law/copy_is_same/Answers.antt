@@ -1,5 +1,0 @@
-use Rattle.copy_rules.proofs.Copying.{copy_same}
-use Rattle.copy_rules.proofs.law.copy_is_same.Goals as goal
-
-pub returns : goal.returns
-returns c = copy_same

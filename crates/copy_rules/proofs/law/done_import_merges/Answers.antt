@@ -1,5 +1,0 @@
-use Rattle.copy_rules.proofs.Copying.{done_merges}
-use Rattle.copy_rules.proofs.law.done_import_merges.Goals as goal
-
-pub returns : goal.returns
-returns c = done_merges

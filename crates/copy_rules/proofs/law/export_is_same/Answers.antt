@@ -1,5 +1,0 @@
-use Rattle.copy_rules.proofs.Exported.{export_same}
-use Rattle.copy_rules.proofs.law.export_is_same.Goals as goal
-
-pub returns : goal.returns
-returns c = export_same

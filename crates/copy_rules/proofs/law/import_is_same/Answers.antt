@@ -1,5 +1,0 @@
-use Rattle.copy_rules.proofs.Copying.{import_same}
-use Rattle.copy_rules.proofs.law.import_is_same.Goals as goal
-
-pub returns : goal.returns
-returns c = import_same

@@ -1,4 +1,0 @@
-pub mod Nodes
-pub mod Shows
-pub mod Midst
-pub mod Showing

@@ -1,5 +1,0 @@
-use Rattle.given_reads.proofs.Chains.{reads_of}
-use Rattle.given_reads.proofs.law.gave_reads.Goals as goal
-
-pub returns : goal.returns
-returns g c held trace a b given empty gave = reads_of held trace a b given empty gave

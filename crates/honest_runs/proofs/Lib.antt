@@ -1,4 +1,0 @@
-pub mod Forms
-pub mod Outputs
-pub mod Texts
-pub mod Whole

@@ -1,4 +1,0 @@
-mod Put
-mod Crowds
-mod Changing
-mod Living

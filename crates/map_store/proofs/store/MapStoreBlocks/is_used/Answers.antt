@@ -1,6 +1,0 @@
-use Rattle.std.proofs.Common.{sym, ◌∙◌}
-use Rattle.map_store.specs.Rows.{has_id-keys}
-use Rattle.map_store.proofs.store.MapStoreBlocks.is_used.Goals as goal
-
-pub returns : goal.returns
-returns c = c.has.ensures ∙ sym (has_id-keys c.args.self.now.rows c.args.id.now.0)

@@ -1,4 +1,0 @@
-pub mod Rows
-pub mod Setting
--- Handed on to crates above, which name their words so and needn't list them.
-pub use Rattle.store_api.specs as store_api

@@ -1,0 +1,16 @@
+//! A folder of the host in memory, for tests: it tells its tree, and its calls can be made to fail.
+//!
+//! Rows that tests make in folders of the host and look for there, over any folder.
+#![tactic(auto)]
+
+mod looks;
+mod memory_folder;
+mod rows;
+mod table_rows;
+
+pub use looks::{has_rows, holds, leads};
+pub use memory_folder::MemoryFolder;
+pub use rows::{Row, appends, fills_small, makes, path};
+
+// Handed on to crates above, which needn't list them.
+pub use host_folder;

@@ -1,8 +1,0 @@
-use Rattle.std.proofs.Common.{refl}
-use Rattle.mount_blocks.proofs.Readying.{examined_call}
-use Rattle.mount_blocks.proofs.examined.ExaminedBlocks.load_front.Goals as goal
-
-pub returns-clause-outcome : goal.returns-clause-outcome
-returns-clause-outcome g c =
-    examined_call g.V.Vault.trace g.V.Vault.faults g.K.Keeper _ _ (record { opened = refl; root = refl; violated = refl; saver = refl; overlay = refl; cached = c.load_front_below.ensures.cached }) c.requires
-    c.load_front_below.ensures.outcome c.load_front_below.ensures.stays

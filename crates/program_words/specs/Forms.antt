@@ -1,0 +1,111 @@
+-- The words that the program is called with.
+use Rattle.std.specs.Prelude.{ℕ, ◌+◌, ◌≤◌, ◌&&◌, ◌||◌, Bool, true, false, cond, codes, is_some, nat_le, List, [], ◌∷◌, ◌++◌, length, option_and_then, Result, Ok}
+use Rattle.std.specs.List.{flat_map}
+use Rattle.std.specs.declared.option.Option.{Option}
+use Rattle.std.specs.declared.option.Option.TheVariants.{None, Some}
+use Rattle.std.specs.Option.{option_map}
+use Rattle.std.specs.Str.{bytes_eq}
+use Rattle.block_id.specs.declared.sizes.TheConstants.{MIN_BLOCK, MAX_BLOCK}
+use Rattle.fs_model.specs.declared.command.Command.{Command as Asked}
+use Rattle.fs_model.specs.declared.command.Command.TheVariants.{List as Ls}
+use Rattle.fs_model.specs.declared.error.FsError.{FsError}
+use Rattle.script_text.specs.Grammar.{verb_of, command_of}
+use Rattle.script_text.specs.Numbers.{number_of, below}
+use Rattle.program_words.specs.CreateOptions.{options_of}
+use Rattle.program_words.specs.declared.form.Form.{Form}
+use Rattle.program_words.specs.declared.form.Form.TheVariants.{Trial, TrialGenerate, Create, Info, Passwd, Migrate, Shell, Generate, Command, Import, Export, Put, Get, Check, Survey}
+use Rattle.program_words.specs.declared.words.TheConstants.{MAX_GENERATE}
+
+-- 1 to 7 decimal digits, a number of at most 1,000,000
+unfoldable pub count_of : List ℕ → Option ℕ
+count_of word = cond (nat_le (length word) 7) (option_and_then (below (MAX_GENERATE + 1)) (number_of word)) None
+
+-- a word that stands alone
+unfoldable pub single_form : List ℕ → Option Form
+single_form word =
+    cond (bytes_eq word (codes "trial")) (Some Trial)
+    (cond (bytes_eq word (codes "info")) (Some Info)
+    (cond (bytes_eq word (codes "passwd")) (Some Passwd)
+    (cond (bytes_eq word (codes "migrate")) (Some Migrate)
+    (cond (bytes_eq word (codes "shell")) (Some Shell)
+    (cond (bytes_eq word (codes "check")) (Some Check) None)))))
+
+-- a word that stands alone, `generate N`, `check --all` or `trial generate N`
+unfoldable pub plain_form : List (List ℕ) → Option Form
+plain_form (first ∷ []) = single_form first
+plain_form (first ∷ second ∷ []) =
+    cond (bytes_eq first (codes "generate")) (option_map Generate (count_of second))
+    (cond (bytes_eq first (codes "check") && bytes_eq second (codes "--all")) (Some Survey) None)
+plain_form (first ∷ second ∷ third ∷ []) =
+    cond (bytes_eq first (codes "trial") && bytes_eq second (codes "generate")) (option_map TrialGenerate (count_of third)) None
+plain_form _ = None
+
+-- the first word is the name of a script command, with whatever words, or they are of another form
+abbrev pub other_form : List ℕ → List (List ℕ) → Option Form
+other_form first words = cond (is_some (verb_of first)) (Some Command) (plain_form words)
+
+-- the path of `ls PATH`
+abbrev pub listed : Result Asked FsError → Option (List (List ℕ))
+listed (Ok (Ls path)) = Some path
+listed _ = None
+
+-- the path that a word says as it would behind `ls` in a script
+unfoldable pub path_in : List ℕ → Option (List (List ℕ))
+path_in word = listed (command_of (codes "ls " ++ word))
+
+-- the copy that a word asks for
+abbrev pub copy_word : List ℕ → Option Form
+copy_word word =
+    cond (bytes_eq word (codes "import")) (Some Import)
+    (cond (bytes_eq word (codes "export")) (Some Export)
+    (cond (bytes_eq word (codes "put")) (Some Put)
+    (cond (bytes_eq word (codes "get")) (Some Get) None)))
+
+-- the path that a copy goes to or comes from: the one word after the first
+abbrev pub copy_path : List (List ℕ) → Option (List (List ℕ))
+copy_path (first ∷ word ∷ []) = path_in word
+copy_path _ = None
+
+-- a copy, where the words say its path
+abbrev pub copied : Form → List (List ℕ) → Option Form
+copied copy words = cond (is_some (copy_path words)) (Some copy) None
+
+-- the words are those of a copy, or of another form
+abbrev pub copy_or_other : Option Form → List ℕ → List (List ℕ) → Option Form
+copy_or_other (Some copy) first words = copied copy words
+copy_or_other None first words = other_form first words
+
+-- the first word is `create`
+abbrev pub is_create : List (List ℕ) → Bool
+is_create [] = false
+is_create (first ∷ words) = bytes_eq first (codes "create")
+
+abbrev pub is_pair : List (List ℕ) → Bool
+is_pair (first ∷ word ∷ []) = true
+is_pair _ = false
+
+-- the first of two words asks for a copy
+abbrev pub is_copy : List (List ℕ) → Bool
+is_copy [] = false
+is_copy (first ∷ words) = is_some (copy_word first) && is_pair (first ∷ words)
+
+-- memory may be refused while the words are read
+abbrev pub takes_memory : List (List ℕ) → Bool
+takes_memory words = is_create words || is_copy words
+
+-- what the words ask for: `create` and its options, a copy and its path, a line of a script, or another form
+unfoldable pub form_of : List (List ℕ) → Option Form
+form_of [] = None
+form_of (first ∷ words) = cond (is_create (first ∷ words)) (option_map Create (options_of words)) (copy_or_other (copy_word first) first (first ∷ words))
+
+-- the line that the words are: one after another, with a space between them
+abbrev pub joined : List (List ℕ) → List ℕ
+joined [] = []
+joined (first ∷ others) = first ++ flat_map (λ word. 32 ∷ word) others
+
+-- at most 1,000,000 commands, and blocks of 128 to 1,048,576 bytes
+abbrev pub IsModest : Form → Type 0
+IsModest (Generate count) = count ≤ 1000000
+IsModest (Create options) = (MIN_BLOCK ≤ options.block_size) × (options.block_size ≤ MAX_BLOCK)
+IsModest (TrialGenerate count) = count ≤ 1000000
+IsModest _ = Unit {0}

@@ -1,0 +1,6 @@
+pub mod Adapters
+pub mod Faults
+pub mod FileNames
+pub mod FolderLog
+pub mod Saves
+pub mod StreamsAdapters

@@ -1,7 +1,0 @@
-use Rattle.std.proofs.Common.{[], ◌∷◌}
-use Rattle.fs_model.specs.declared.command.Command.TheVariants.{Mkdir}
-use Rattle.row_copy.proofs.Chains.{none_memory}
-use Rattle.row_copy.proofs.rows.make_directory.Goals as goal
-
-pub returns-in-Err-clause-asks : goal.returns-in-Err-clause-asks
-returns-in-Err-clause-asks g c = none_memory g.A.Asker.asking g.met.A.Asker.lawful c.args.asker.now c.args.to.now (Mkdir c.args.to.now ∷ [])

@@ -1,7 +1,0 @@
-pub mod Rows
-pub mod Reading
-pub mod Reads
--- Handed on to crates above, which name their words so and needn't list them.
-pub use Rattle.copy_rules.specs as copy_rules
-pub use Rattle.copy_rules.specs.host_folder as host_folder
-pub use Rattle.copy_rules.specs.store_api as store_api

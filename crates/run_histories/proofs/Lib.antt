@@ -1,3 +1,0 @@
-pub mod One
-pub mod All
-pub mod Formats

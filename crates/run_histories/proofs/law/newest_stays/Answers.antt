@@ -1,8 +1,0 @@
-use Rattle.run_histories.proofs.Formats.{begins_newest, list_takes}
-use Rattle.run_histories.proofs.law.newest_stays.Goals as goal
-
-pub returns-clause-begins : goal.returns-clause-begins
-returns-clause-begins g c = begins_newest g.V.Vault.trace g.V.Vault.faults g.V.Listing.names g.K.Keeper
-
-pub returns-clause-stays : goal.returns-clause-stays
-returns-clause-stays g c = list_takes g.V.Vault.trace g.V.Vault.faults g.V.Listing.names g.K.Keeper

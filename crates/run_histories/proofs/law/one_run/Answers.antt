@@ -1,9 +1,0 @@
-use Rattle.run_histories.proofs.One.{one, other}
-use Rattle.run_histories.proofs.law.one_run.Goals as goal
-
-pub returns : goal.returns
-returns g c =
-    let trace = g.V.Vault.trace in
-    let faults = g.V.Vault.faults in
-    let names = g.V.Listing.names in
-    λ call h. (one trace faults names g.K.Keeper call h, other trace faults names g.K.Keeper call h)

@@ -1,0 +1,33 @@
+//! The runs beside sessions: making a file system, telling of one, changing its password and writing its blocks anew, each
+//! under the password lines of the input.
+//!
+//! What the runs beside sessions print: the id of a file system that was made, what is told of one, that a password was
+//! changed, and how many blocks were written anew.
+#![tactic(auto)]
+
+mod create;
+mod create_text;
+mod info;
+mod info_text;
+mod migrate;
+mod migrate_text;
+mod opening;
+mod passwd;
+mod passwd_text;
+mod print;
+
+pub use create::run_create;
+pub use create_text::report_created;
+pub use info::run_info;
+pub use info_text::{MAX_TEXT, print_info};
+pub use migrate::run_migrate;
+pub use migrate_text::print_migrated;
+pub use mount_calls::{close, condemn};
+pub use opening::open;
+pub use passwd::run_passwd;
+pub use passwd_text::report_changed;
+pub use session_laws::mount::Mount;
+
+// Handed on to crates above, which needn't list them.
+
+pub use session_laws::{record_saver, run_frame};

@@ -1,6 +1,0 @@
-use Rattle.std.proofs.Common.{◌∙◌}
-use Rattle.shell_words.proofs.Verbs.{named}
-use Rattle.shell_words.proofs.words.is_command.Goals as goal
-
-pub returns : goal.returns
-returns c = c.contains.ensures.value ∙ named c.args.word.now

@@ -1,0 +1,7 @@
+use Rattle.std.proofs.Common.{◌∙◌, ap}
+use Rattle.store_api.specs.Entries.{changes_of}
+use Rattle.store_api.proofs.Places.{no_changes}
+use Rattle.store_api.proofs.batch.Batch.clear.Goals as goal
+
+pub returns : goal.returns
+returns c = ap changes_of c.clear.ensures.items ∙ no_changes

@@ -1,5 +1,0 @@
-use Rattle.std.proofs.Common.{length}
-use Rattle.tree_rules.proofs.paths.+cmp_names.Given as goal
-
-abbrev pub decreases-cmp_names : goal.decreases-cmp_names
-decreases-cmp_names l = length l.a.now
