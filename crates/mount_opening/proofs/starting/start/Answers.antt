@@ -109,6 +109,7 @@ written g c =
             can_mark = record {
               marks = endures.marked old true c.args.last.items c.requires.long.last;
               long = endures.long old true c.args.last.items c.requires.long.last;
+              plain = endures.plain_marked old true c.args.last.items c.requires.long.last;
             };
             whole = record { kept = λ u. kept; last = λ u. short; none = λ u. none };
             unchanged = w.if-waits.false;
