@@ -73,7 +73,7 @@ impl<V: Vault, K: Keeper> Blocks for Examined<V, K> {
         self.mount.core.blobs.tx.store.payload()
     }
 
-    ghost lawful = { examined_lawful V.trace V.faults K.Keeper };
+    ghost lawful = { examined_lawful V.trace V.faults (record { kept = K.kept; room = K.room; faults = K.faults; takes = K.takes }) };
 
-    ghost steady = { examined_steady V.trace V.faults K.Keeper };
+    ghost steady = { examined_steady V.trace V.faults (record { kept = K.kept; room = K.room; faults = K.faults; takes = K.takes }) };
 }

@@ -34,5 +34,5 @@ impl<V: Vault, K: Keeper, R: Rng> Asker for MountAsker<'_, V, K, R> {
         }
     }
 
-    ghost lawful = { mount_lawful R.stream V.trace V.faults K.Keeper };
+    ghost lawful = { mount_lawful R.stream V.trace V.faults (record { kept = K.kept; room = K.room; faults = K.faults; takes = K.takes }) };
 }

@@ -26,5 +26,5 @@ impl<V: Vault, K: Keeper, R: Rng> Host for Mounted<'_, V, K, R> {
         answer(alloc, &mut self.mount, now, command, self.chance)
     }
 
-    ghost lawful = { mounted_lawful R.stream V.trace V.faults K.Keeper };
+    ghost lawful = { mounted_lawful R.stream V.trace V.faults (record { kept = K.kept; room = K.room; faults = K.faults; takes = K.takes }) };
 }
