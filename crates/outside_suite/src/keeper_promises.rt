@@ -4,7 +4,7 @@ ghost use Rattle.std.specs.Option.{option_copied};
 ghost use Rattle.outside.specs.View.{bytes_of};
 
 use crate::expected::{LENGTHS, expect, generated, is_same};
-use outside::Keeper;
+use outside::{Keeper, WholeKeeper};
 use rand_core::Rng;
 use rand_pcg::Pcg32;
 use std::alloc::Global;
@@ -25,7 +25,7 @@ fn has<K: Keeper>(alloc: Global, keeper: &mut K, want: Option<&Vec<u8>>) -> Resu
 }
 
 /// Takes the memory for a record, and saves it.
-fn save<K: Keeper>(alloc: Global, keeper: &mut K, bytes: &[u8]) -> Result<(), Fail>
+fn save<K: WholeKeeper>(alloc: Global, keeper: &mut K, bytes: &[u8]) -> Result<(), Fail>
     ensures { OnOk result (K.kept keeper.new ≡ Some bytes.now) }
 {
     keeper.prepare(alloc, bytes.len())?;
@@ -46,7 +46,7 @@ pub fn loads_nothing_at_first<K: Keeper>(alloc: Global, keeper: &mut K) -> Resul
 }
 
 /// What was saved is loaded, whole, as often as it is asked for.
-pub fn loads_what_was_saved<K: Keeper>(alloc: Global, keeper: &mut K) -> Result<(), Fail> {
+pub fn loads_what_was_saved<K: WholeKeeper>(alloc: Global, keeper: &mut K) -> Result<(), Fail> {
     for len in LENGTHS {
         let bytes = generated(alloc, 1, len)?;
         save(alloc, keeper, &bytes)?;
@@ -59,7 +59,10 @@ pub fn loads_what_was_saved<K: Keeper>(alloc: Global, keeper: &mut K) -> Result<
 }
 
 /// A second save replaces all that was kept, whether it is shorter, longer or as long.
-pub fn replaces_by_a_second_save<K: Keeper>(alloc: Global, keeper: &mut K) -> Result<(), Fail> {
+pub fn replaces_by_a_second_save<K: WholeKeeper>(
+    alloc: Global,
+    keeper: &mut K,
+) -> Result<(), Fail> {
     for (before, after) in [(9000, 10), (10, 9000), (10, 10), (10, 0), (0, 10)] {
         save(alloc, keeper, &generated(alloc, 1, before)?)?;
         let bytes = generated(alloc, 2, after)?;
@@ -71,7 +74,7 @@ pub fn replaces_by_a_second_save<K: Keeper>(alloc: Global, keeper: &mut K) -> Re
 }
 
 /// While memory is taken, for more or less than the record has, the record stays.
-pub fn keeps_its_record_while_it_takes_memory<K: Keeper>(
+pub fn keeps_its_record_while_it_takes_memory<K: WholeKeeper>(
     alloc: Global,
     keeper: &mut K,
 ) -> Result<(), Fail> {
@@ -86,7 +89,7 @@ pub fn keeps_its_record_while_it_takes_memory<K: Keeper>(
 }
 
 /// Saves a record for which there is room, and loads it.
-fn save_within<K: Keeper>(alloc: Global, keeper: &mut K, len: usize) -> Result<(), Fail>
+fn save_within<K: WholeKeeper>(alloc: Global, keeper: &mut K, len: usize) -> Result<(), Fail>
     requires { len ≤ K.room keeper.old }
     ensures saved { OnOk result (option_map length (K.kept keeper.new) ≡ Some len) }
     ensures room { K.room keeper.old ≤ K.room keeper.new }
@@ -99,7 +102,7 @@ fn save_within<K: Keeper>(alloc: Global, keeper: &mut K, len: usize) -> Result<(
 
 /// Room stays: after memory was taken for a long record, records of its length and shorter ones are saved in any order, and
 /// no more is taken. A record that is longer than the room can't be saved at all: the proof refuses such a call.
-pub fn keeps_room_for_its_longest_record<K: Keeper>(
+pub fn keeps_room_for_its_longest_record<K: WholeKeeper>(
     alloc: Global,
     keeper: &mut K,
 ) -> Result<(), Fail> {
@@ -115,7 +118,7 @@ pub fn keeps_room_for_its_longest_record<K: Keeper>(
 }
 
 /// After each of a hundred saves the record is the one that was saved last.
-pub fn follows_generated_saves<K: Keeper>(alloc: Global, keeper: &mut K) -> Result<(), Fail> {
+pub fn follows_generated_saves<K: WholeKeeper>(alloc: Global, keeper: &mut K) -> Result<(), Fail> {
     let mut chance = Pcg32::new(1, 2);
     for number in 0..SAVES {
         let len = (chance.next_u32() % 3000) as usize;
@@ -128,7 +131,7 @@ pub fn follows_generated_saves<K: Keeper>(alloc: Global, keeper: &mut K) -> Resu
 }
 
 /// Each promise in turn, over a keeper of nothing.
-pub fn keeps_all_of_a_record<K: Keeper>(alloc: Global, keeper: &mut K) -> Result<(), Fail> {
+pub fn keeps_all_of_a_record<K: WholeKeeper>(alloc: Global, keeper: &mut K) -> Result<(), Fail> {
     loads_nothing_at_first(alloc, keeper)?;
     loads_what_was_saved(alloc, keeper)?;
     replaces_by_a_second_save(alloc, keeper)?;

@@ -188,8 +188,8 @@ where
 
     fn save(&mut self, bytes: &[u8]) -> Result<(), Failed>
         requires { length bytes.now ≤ self.old.room }
-        ensures ok { OnOk result (kept_in self.new ≡ Some bytes.now) }
-        ensures err { OnErr result ((kept_in self.new ≡ kept_in self.old) ⊎ (kept_in self.new ≡ Some bytes.now)) }
+        ensures ok { OnOk result (Unit {0} → kept_in self.new ≡ Some bytes.now) }
+        ensures err { OnErr result (Unit {0} → (kept_in self.new ≡ kept_in self.old) ⊎ (kept_in self.new ≡ Some bytes.now)) }
         ensures room { self.old.room ≤ self.new.room }
         ensures faults { CountsErrors self.old.faults self.new.faults result }
 
