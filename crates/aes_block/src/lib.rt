@@ -1,6 +1,5 @@
-//! AES-256, the block cipher of FIPS 197 with keys of 32 bytes.
-//!
-//! AES-256 (FIPS 197) on sixteen blocks at a time, with no look-up that depends on the key or the blocks.
+//! AES-256, the block cipher of FIPS 197 with keys of 32 bytes: on one block as the standard writes it, and on sixteen at a
+//! time, with no look-up that depends on the key or the blocks.
 #![tactic(auto)]
 
 mod bits_sub_word;

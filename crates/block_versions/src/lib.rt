@@ -1,8 +1,6 @@
 //! The record in a block's file, as bytes, and the verdict on what came for a block: its payload, or the first reason
-//! against it.
-//!
-//! What a directory, a local record and an unwritten list hold of blocks with versions: the content that they call for, when
-//! no file is another than that, what comes of a read, and what a forged file is. No store of blocks is named.
+//! against it. And what a directory, a local record and an unwritten list hold of blocks with versions, and what a forged
+//! file is. No store of blocks is named.
 #![tactic(auto)]
 
 mod block_record;

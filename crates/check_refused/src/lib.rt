@@ -1,6 +1,5 @@
-//! A survey of a store's blocks: each is asked for once, and those that are refused are told.
-//!
-//! The paths that refused blocks belong to, as far as the blocks that are given say so.
+//! A survey of a store's blocks: each is asked for once, those that are refused are told, and the paths that they belong to,
+//! as far as the blocks that are given say so.
 #![tactic(auto)]
 
 mod exploring;

@@ -1,7 +1,6 @@
 //! The run of a check: a file system is opened, each of its blocks is loaded from the directory and judged, what is kept is
-//! marked after a flaw or a violation, it is closed, and what was found is told.
-//!
-//! What a chain of loads was given by a directory of sealed files: where nothing waits to be written, one get for each payload, and its verdict.
+//! marked after a flaw or a violation, it is closed, and what was found is told. A law ties what a walk was given to the
+//! calls on the directory: where nothing waits, one get for each payload, and its verdict.
 #![tactic(auto)]
 
 mod examining;

@@ -1,6 +1,5 @@
-//! Names, paths, commands and replies of the tree language, and the definition of its step.
-//!
-//! Rules that the tree in memory and the tree of blobs share: attributes, lengths, and the order and prefixes of names.
+//! Names, paths, commands and replies of the tree language, and the definition of its step. And rules that the tree in
+//! memory and the tree of blobs share: attributes, lengths, and the order and prefixes of names.
 #![tactic(auto)]
 
 mod attr;

@@ -1,8 +1,7 @@
-//! File systems as they lie in folders. One that an earlier program made (`bench/golden.py`) opens, shows what was written into it,
-//! puts what waits in its record, and each damage of a block has its verdict; new ones in the older forms are changed and
-//! migrated; and one is made and used by the program's own run over real folders. There is nothing here but tests.
-//!
-//! Stored file systems as programs of before block format 2 wrote them, for tests.
+//! File systems as they lie in folders. One that an earlier program made (`golden.py`) opens, shows what was written into
+//! it, puts what waits in its record, and each damage of a block has its verdict; new ones in the older forms, which are
+//! made here, are changed and migrated; and one is made and used by the program's own run over real folders. All is for
+//! tests.
 #![tactic(auto)]
 
 #[cfg(test)]

@@ -1,4 +1,4 @@
-// A file system that was made by `bench/golden.py` with the program as it was on 2026-11-29.
+// A file system that was made by `golden.py` with the program as it was on 2026-11-29.
 // created 299B7F00ACD74916C2D7097FB2CE040E, root 2E0435824AAF8B86DF5ED063B4777541
 
 /// The configuration's file.

@@ -1,8 +1,6 @@
-//! The store of blocks that notices rollback: payloads in sealed files, each with its id, its client and a version that
-//! only rises, over a directory that may give whatever it likes.
-//!
-//! A batch of changes as what waits for the directory: the draft of each payload's file under its next version, and each
-//! removal; and what the batch makes of the known versions.
+//! The store of blocks that notices rollback: payloads in sealed files, each with its id, its client and a version that only
+//! rises, over a directory that may give whatever it likes. A batch of changes waits there as drafts of files under their
+//! next versions, and as removals.
 #![tactic(auto)]
 
 mod apply;

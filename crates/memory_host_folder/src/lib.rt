@@ -1,6 +1,5 @@
-//! A folder of the host in memory, for tests: it tells its tree, and its calls can be made to fail.
-//!
-//! Rows that tests make in folders of the host and look for there, over any folder.
+//! A folder of the host in memory, for tests: it tells its tree, and its calls can be made to fail. And rows that tests make
+//! in folders of the host and look for there, over any folder.
 #![tactic(auto)]
 
 mod looks;

@@ -1,9 +1,6 @@
-//! A small store of blocks in memory, for tests and for trying what stands above a store.
-//!
-//! A small store of byte lists in memory, for tests and for trying what stands above such a store.
-//!
-//! Clients of any store: a command over it, which shows that the contracts of stores suffice, and a payload under an
-//! id of the caller's choice.
+//! Small stores in memory, of blocks and of byte lists, for tests and for trying what stands above a store. And clients of
+//! any store: a command over it, which shows that the contracts of stores suffice, and a payload under an id of the caller's
+//! choice.
 #![tactic(auto)]
 
 mod blobs_rows;

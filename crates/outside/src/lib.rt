@@ -1,6 +1,4 @@
-//! The outside as traits with a written meaning: input, output, the block directory, the local record.
-//!
-//! A listing of the block directory as a trait with a written meaning: the names of all files below it.
+//! The outside as traits with a written meaning: input, output, the block directory and the names in it, the local record.
 #![tactic(auto)]
 
 mod byte_line;

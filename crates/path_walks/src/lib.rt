@@ -1,9 +1,5 @@
-//! Walks along paths over directories that are kept blob by blob, and the row that a command finds.
-//!
-//! What it means that blobs show a tree of paths: definitions, also for states in the midst of a command, and the laws of
-//! each change.
-//!
-//! A row's entry set in its directory, and directories whose children changed, on the tree that blobs show.
+//! What it means that blobs show a tree of paths, walks along paths over directories that are kept blob by blob, and a row's
+//! entry set in its directory.
 #![tactic(auto)]
 
 mod entries;

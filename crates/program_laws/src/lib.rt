@@ -1,10 +1,6 @@
-//! Over a directory that gives what was last written, where nothing fails, each run does what it is to do, or finds no memory.
-//!
-//! What is kept stands for one tree: the blobs of a map show one tree at most, and a record with the calls on the directory calls for one content.
-//!
-//! A directory, a record, an input and an output in memory that are honest by their types: no caller has to assume it of them.
-//!
-//! What the program does where nothing lies and nothing fails, with no premise: a file system is made in memory, and a session asks it lines.
+//! Laws of the program that nothing calls. Over a directory that gives what was last written, where nothing fails, each run
+//! does what it is to do, or finds no memory. What is kept stands for one tree at most. And a run in memory, over a
+//! directory, a record, an input and an output that are honest by their types: what it answers needs no premise.
 #![tactic(auto)]
 
 mod calls;

@@ -1,6 +1,5 @@
-//! The program's own run: over its two folders, from a reader to a writer, after any calls that were made on the block folder.
-//!
-//! The headline in one sentence: any list of calls of the program's `run` over one file system.
+//! The program's own run, over its two folders, from a reader to a writer, after any calls that were made on the block
+//! folder; and the headline in one sentence, of any list of calls of the program's `run` over one file system.
 #![tactic(auto)]
 
 mod call;

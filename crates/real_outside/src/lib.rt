@@ -1,6 +1,5 @@
-//! The block directory and the local record in real folders.
-//!
-//! Standard input and output, or another reader and writer, as the program's input and output.
+//! The outside of the program: the block directory and the local record in real folders, and standard input and output, or
+//! another reader and writer.
 #![tactic(auto)]
 
 mod error;

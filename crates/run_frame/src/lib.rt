@@ -1,7 +1,5 @@
-//! How runs over a file system begin and end, less what a mount does: the password line with the memory of a session, and the
-//! statuses of errors of opening and closing and of sessions.
-//!
-//! The password lines of an input: one, or an old and a new one.
+//! How runs over a file system begin and end, less what a mount does: the password lines of the input, one or an old and a
+//! new one, with the memory of a session, and the statuses of errors of opening and closing and of sessions.
 #![tactic(auto)]
 
 mod beginning;

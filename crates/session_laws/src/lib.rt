@@ -1,8 +1,7 @@
-//! What a whole session over a mount is, from its opening to its end, and the laws by which its exchanges follow from those of
-//! the mount; and what a run did that opened none. The calls are those of `shell_runs` and `setup_runs`: a crate with
-//! none loads little of what lies below it.
-//!
-//! Any list of runs over one file system: what each one leaves is what the next one needs. Of one session: how long its answers are right.
+//! What a whole session over a mount is, from its opening to its end, and what a run did that opened none. The laws by which
+//! a session's exchanges follow from those of the mount, and those of any list of runs over one file system: what each
+//! leaves is what the next one needs. The calls are those of `shell_runs` and `setup_runs`: a crate with none loads little
+//! of what lies below it.
 #![tactic(auto)]
 
 mod forgeries;

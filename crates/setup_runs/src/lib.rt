@@ -1,8 +1,5 @@
 //! The runs beside sessions: making a file system, telling of one, changing its password and writing its blocks anew, each
-//! under the password lines of the input.
-//!
-//! What the runs beside sessions print: the id of a file system that was made, what is told of one, that a password was
-//! changed, and how many blocks were written anew.
+//! under the password lines of the input; and what each prints.
 #![tactic(auto)]
 
 mod create;

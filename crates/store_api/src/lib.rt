@@ -1,6 +1,4 @@
-//! A store of blocks as traits, and an overlay over a store.
-//!
-//! A batch: changes of blocks, which are made all or none; and changes while they are made.
+//! A store of blocks as traits, an overlay over a store, and batches: changes of blocks, which are made all or none.
 #![tactic(auto)]
 
 mod batch;

@@ -1,8 +1,6 @@
 //! Stores of sealed blocks over a directory and a local record in memory: what a client sees after rollbacks, faults and
-//! stops, and what its own loads and changes over such a store answer. There is nothing here but tests.
-//!
-//! A store of sealed blocks that is opened anew over the same directory and record, by whatever keeps these: what was put
-//! and synced is loaded by it.
+//! stops, and what its own loads and changes over such a store answer. Beside these tests one function is proved, over any
+//! directory and record: what was put and synced is loaded by a store that is opened anew.
 #![tactic(auto)]
 
 #[cfg(test)]
