@@ -9,11 +9,12 @@ it is interrupted or ended by SIGTERM, it ends the command and prints what was m
 minutes on the clock, and those of processor."""
 import collections
 import os
-import re
 import signal
 import subprocess
 import sys
 import time
+
+from prove import read_lines
 
 TICKS = os.sysconf("SC_CLK_TCK")
 KINDS = ("Proof", "Tests", "Wrong bodies")
@@ -77,13 +78,6 @@ def measure(top):
     return [(subjects[it], seconds[it]) for it in seconds if subjects[it]]
 
 
-def names():
-    """The crates in the order of crates.txt."""
-    top = os.path.dirname(os.path.dirname(os.path.abspath(__file__)))
-    with open(f"{top}/crates.txt", encoding="utf-8") as file:
-        return re.findall(r"^(\w+).*?:", file.read(), re.MULTILINE)
-
-
 def main(words):
     signal.signal(signal.SIGTERM, signal.default_int_handler)
     begun = time.monotonic()
@@ -93,7 +87,7 @@ def main(words):
     for (name, kind), seconds in found:
         sums[name, kind] += seconds
     print("\n| Crate | " + " | ".join(KINDS) + " |\n|---|" + "---|" * len(KINDS))
-    for name in names():
+    for name in read_lines():
         row = [f"{sums[name, kind]:.0f}" if sums[name, kind] else "" for kind in KINDS]
         if any(row):
             print("| " + " | ".join([name, *row]) + " |")

@@ -27,10 +27,15 @@ def read(path):
         return file.read()
 
 
+def read_line(line):
+    """The crate of a line of crates.txt and the libraries that it names, or None."""
+    name, mark, libraries = line.partition("#")[0].partition(":")
+    return (name.split()[0], libraries.split()) if mark else None
+
+
 def read_lines():
-    """The libraries of each crate in crates.txt."""
-    lines = [line.partition("#")[0].partition(":") for line in read(f"{TOP}/crates.txt").splitlines()]
-    return {name.split()[0]: libraries.split() for name, mark, libraries in lines if mark}
+    """The libraries of each crate, in the order of crates.txt."""
+    return dict(filter(None, map(read_line, read(f"{TOP}/crates.txt").splitlines())))
 
 
 def is_left(name):
