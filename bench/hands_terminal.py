@@ -4,7 +4,7 @@ import os
 import signal
 import time
 
-from hands_tree import ANSWERS, Terminal, has, require, same, wait_until
+from hands_tree import ANSWERS, Terminal, has, needs, require, same, wait_until
 
 # The line of a terminal that follows what is typed.
 PROMPT = "cryfs> "
@@ -135,6 +135,7 @@ def shell_tells_how_to_use_it(tree):
 
 
 def shell_edits_lines_and_has_a_history(tree):
+    needs("readline")
     tree.built(ANSWERS)
     terminal = Terminal(tree, "b", "s", "shell", kind="xterm")
     terminal.answer("Password: ", "pw")
@@ -166,6 +167,7 @@ def shell_keeps_prompts_out_of_answers(tree):
 
 
 def shell_tells_of_an_output_that_fails(tree):
+    needs("/dev/full")
     tree.built(ANSWERS)
     with open("/dev/full", "w") as into:
         terminal = shell(tree, into=into.fileno())
@@ -215,6 +217,7 @@ def an_interrupt_while_it_opens_ends_the_input(tree):
 
 
 def a_stop_gives_the_terminal_back(tree):
+    needs("readline", "/bin/bash")
     tree.built(ANSWERS)
     for kind in ("dumb", "xterm"):
         terminal = Terminal(tree, "--norc", "-i", kind=kind, script="/bin/bash")

@@ -1,5 +1,6 @@
 """What the cases of `hands.py` stand on: a folder with the wrapper in it, a terminal, and what is asserted."""
 import contextlib
+import importlib.util
 import os
 import pty
 import select
@@ -149,7 +150,10 @@ class Terminal:
     """A run of the script whose standard streams are a terminal of its own."""
 
     def __init__(self, tree, *words, kind="dumb", into=None, script=None):
-        self.pid, self.side = pty.fork()
+        try:
+            self.pid, self.side = pty.fork()
+        except OSError as why:
+            raise Skipped(f"no terminal: {why}") from why
         if not self.pid:
             os.chdir(tree.top)
             signal.signal(signal.SIGPIPE, signal.SIG_DFL)
@@ -201,6 +205,17 @@ class Terminal:
         require(self.shows(), "the terminal is left without echo")
         os.close(self.side)
         return status, self.seen
+
+
+class Skipped(Exception):
+    """What a case needs isn't here."""
+
+
+def needs(*things):
+    """Skips a case where a file or a module of python isn't here."""
+    for it in things:
+        if not (os.path.exists(it) if it.startswith("/") else importlib.util.find_spec(it)):
+            raise Skipped(f"there is no {it}")
 
 
 def require(holds, why):
