@@ -19,6 +19,7 @@ cryfs: block_id outside
 """
 RT = r"""#!/bin/sh
 top=$(dirname "$(dirname "$0")")
+[ "$1" = doc ] && { echo "$top/START-HERE.md"; exit; }
 echo "$*" >>"$top/calls"
 for crate in crates/*; do
     [ -e "$top/slow" ] && sleep 0.5
@@ -26,6 +27,16 @@ for crate in crates/*; do
     echo "logic=proved"; echo "rt: ${crate#crates/} proved"
 done
 mkdir -p crates/cryfs/out; cp "$top/stub" crates/cryfs/out/cryfs; [ -e "$top/half" ] && exit 1; exit 0
+"""
+# What builds for processors with AVX2: nothing, where the tree has no program `wide`.
+RATTLE = r"""#!/bin/sh
+top=$(dirname "$(dirname "$0")")
+echo "$*" >>"$top/rattled"
+for last; do :; done
+cp "$top/wide" "$last"
+"""
+LINK = r"""#!/bin/sh
+cp "$7" "$6"
 """
 PROGRAM = r"""#!/bin/sh
 echo "process $$ in $PWD"
@@ -35,6 +46,8 @@ while IFS= read -r line; do echo "line $line"; done
 [ -n "$line" ] && echo "piece $line"
 exit 5
 """
+# The same for processors with AVX2, which says so. Without words it ends well: so the build tries it.
+WIDE = PROGRAM.replace("#!/bin/sh\n", '#!/bin/sh\n[ $# = 0 ] && exit 0\necho "wide"\n')
 # A program for terminals: a line for each line, of `ls` more; `die` ends it, and `slow` takes its time. What it was run
 # with and what it got are in a file.
 ANSWERS = r"""#!/bin/sh
@@ -63,10 +76,10 @@ INSTALLED_PAGES = ("docs/USING.md", "docs/FORMATS.md", "docs/PERFORMANCE.md")
 class Tree:
     """A folder with the script, a line of source for each crate, and an `rt` of its own."""
 
-    def __init__(self, folder):
-        self.top, self.started, self.exported = folder, [], {}
+    def __init__(self, folder, program=BUILT):
+        self.top, self.program, self.started, self.exported = folder, program, [], {}
         os.makedirs(f"{folder}/bin")
-        for name in ("cryfs", "build", "HANDLES", "README.md", "tools/prove.py", *INSTALLED_PAGES):
+        for name in ("cryfs", "build", "HANDLES", "README.md", "tools/prove.py", "tools/wide.py", *INSTALLED_PAGES):
             os.makedirs(os.path.dirname(f"{folder}/{name}"), exist_ok=True)
             shutil.copy2(f"{TOP}/{name}", f"{folder}/{name}")
         shutil.copytree(f"{TOP}/wrapper", f"{folder}/wrapper", ignore=shutil.ignore_patterns("__pycache__"))
@@ -75,7 +88,8 @@ class Tree:
             name, _, libraries = line.partition(":")
             uses = "".join(f"use {it};\n" for it in libraries.split())
             self.write(f"crates/{name}/src/lib.rt", f"{uses}pub fn one() {{}}\n")
-        self.write("bin/rt", RT, 0o755)
+        for name, text in {"rt": RT, "rattle": RATTLE, "rattle-link": LINK}.items():
+            self.write(f"bin/{name}", text, 0o755)
         self.write("stub", PROGRAM, 0o755)
 
     def write(self, path, text, mode=0o644):
@@ -123,9 +137,9 @@ class Tree:
         return self
 
     def real(self):
-        """The tree with the program that was built in this checkout."""
+        """The tree with a program that was built in this checkout."""
         self.built()
-        shutil.copy2(BUILT, f"{self.top}/crates/cryfs/out/cryfs")
+        shutil.copy2(self.program, f"{self.top}/crates/cryfs/out/cryfs")
         shutil.rmtree(f"{self.top}/s")
         return self
 

@@ -1,13 +1,15 @@
 #!/usr/bin/env python3
-"""Has `rt ci` prove and build a program and all that it stands on. No crate of tests is among those.
+"""Has `rt ci` prove and build programs and all that they stand on. No crate of tests is among those.
 
-    tools/prove.py NAME
-    tools/prove.py sum NAME    prints one sum of what the first would copy
+    tools/prove.py NAME..
+    tools/prove.py sum NAME..    prints one sum of what the first would copy
 
 `rt ci` proves each crate over the statements of those below it, the longest chain of crates first, as many side by side
 as there are processors and memory for. It works in a room of its own, which holds the sources less their wrong
-bodies: these belong to the gate. First `copied SUM` and `crates COUNT` are printed. The lines of rt come as it prints
-them, and the program is then moved to crates/NAME/out/NAME. Ends with the status of rt."""
+bodies: these belong to the gate. First `copied SUM` and `crates COUNT` are printed, and the lines of rt come as it prints
+them. Then each program is built for processors with AVX2 over the same libraries (`wide.py`). A program is moved to
+crates/NAME/out/NAME, its other one to NAME.v3, or what was there under that name is removed. `built FILE` is printed for
+each. Ends with the status of rt."""
 
 import hashlib
 import os
@@ -54,9 +56,9 @@ def sources(name):
     return files
 
 
-def stands_on(name):
-    """Of the program and each crate that it stands on: its files, and the libraries that they name."""
-    lines, found, left = read_lines(), {}, [name]
+def stands_on(names):
+    """Of the programs and each crate that they stand on: its files, and the libraries that they name."""
+    lines, found, left = read_lines(), {}, list(names)
     while left:
         one = left.pop()
         if one in lines and one not in found:
@@ -67,14 +69,15 @@ def stands_on(name):
     return found
 
 
-def whole(name):
-    """The files of the room by their paths, and how many crates they make."""
-    found = stands_on(name)
-    lines = [f"{one}: {' '.join(libraries)}\n" for one, (_, libraries) in sorted(found.items())]
-    files = {"HANDLES": read(f"{TOP}/HANDLES"), "crates.txt": "".join(lines)}
+def whole(names):
+    """The files of the room by their paths, and the libraries of each of its crates."""
+    found = stands_on(names)
+    lines = {one: libraries for one, (_, libraries) in sorted(found.items())}
+    listed = "".join(f"{one}: {' '.join(libraries)}\n" for one, libraries in lines.items())
+    files = {"HANDLES": read(f"{TOP}/HANDLES"), "crates.txt": listed}
     for one, (its, _) in found.items():
         files.update({f"crates/{one}/{path}": text for path, text in its.items()})
-    return files, len(found)
+    return files, lines
 
 
 def sum_up(files):
@@ -84,16 +87,17 @@ def sum_up(files):
     return total.hexdigest()
 
 
-def fill(room, name):
-    """Puts what the program stands on into the room, and tells its sum and how many crates it is."""
-    files, count = whole(name)
+def fill(room, names):
+    """Puts what the programs stand on into the room, and tells its sum and how many crates it is. Gives their libraries."""
+    files, lines = whole(names)
     # A repository of its own, whose top rt looks for.
     os.makedirs(f"{room}/.git")
     for path, text in files.items():
         os.makedirs(os.path.dirname(f"{room}/{path}"), exist_ok=True)
         with open(f"{room}/{path}", "w", **BYTES) as file:
             file.write(text)
-    print(f"copied {sum_up(files)}\ncrates {count}", flush=True)
+    print(f"copied {sum_up(files)}\ncrates {len(lines)}", flush=True)
+    return lines
 
 
 def flush(path):
@@ -103,17 +107,33 @@ def flush(path):
     os.close(number)
 
 
-def prove(name):
-    out = f"{TOP}/crates/{name}/out"
-    room = f"{out}/room"
+def put(made, place):
+    """Moves what was made to its place, or removes what is there where nothing was."""
+    if made:
+        flush(made)
+        os.makedirs(os.path.dirname(place), exist_ok=True)
+        os.replace(made, place)
+        print(f"built {os.path.basename(place)}", flush=True)
+    elif os.path.exists(place):
+        os.remove(place)
+
+
+def prove(names):
+    # (whoever only sums doesn't wait for this)
+    import wide
+
+    room = f"{TOP}/crates/{names[0]}/out/room"
     shutil.rmtree(room, ignore_errors=True)
-    fill(room, name)
+    lines = fill(room, names)
     unbuffered = {**os.environ, "PYTHONUNBUFFERED": "1"}
     status = subprocess.run(["rt", "ci"], cwd=room, env=unbuffered, stdin=subprocess.DEVNULL).returncode
     if not status:
-        flush(f"{room}/crates/{name}/out/{name}")
-        os.replace(f"{room}/crates/{name}/out/{name}", f"{out}/{name}")
-        flush(out)
+        made = wide.make_all(room, names, lines)
+        for name in names:
+            out = f"{TOP}/crates/{name}/out"
+            put(f"{room}/crates/{name}/out/{name}", f"{out}/{name}")
+            put(made.get(name), f"{out}/{name}.v3")
+            flush(out)
     shutil.rmtree(room)
     return status
 
@@ -121,8 +141,8 @@ def prove(name):
 def main(words):
     try:
         if words[0] != "sum":
-            return prove(words[0])
-        print(sum_up(whole(words[1])[0]))
+            return prove(words)
+        print(sum_up(whole(words[1:])[0]))
     except OSError as why:
         return f"prove.py: {why}"
 

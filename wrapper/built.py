@@ -1,48 +1,85 @@
-"""The program that was built: where it is, and whether it is built of the sources as they are."""
+"""The programs that were built: where they are, which one is run, and whether they are built of the sources as they are."""
 import os
+import re
 import sys
 
+import processor
 from telling import Refused, say
 
 TOP = os.path.dirname(os.path.dirname(os.path.abspath(__file__)))
 NOT_CURRENT = "the sources have changed since the program was built, and what was built is run: ./build proves and builds it anew"
 UNKNOWN = "it isn't known of which sources the program was built, and it is run: ./build proves and builds it anew"
+# The programs by their crates. A checkout makes those of them that its crates.txt names.
+PROGRAMS = ("cryfs", "cryfs_mount")
+
+
+def is_program(path):
+    return os.access(path, os.X_OK) and os.path.getsize(path) > 0
+
+
+def wide_of(program):
+    """Where the same program for processors with AVX2 is, if it could be built."""
+    return f"{program}.v3"
+
+
+def sum_of(program):
+    """The file that tells the sum of the sources that a program was built of."""
+    return f"{program}.sources"
+
+
+def built_of(program):
+    """The sum of the sources that a program was built of, or nothing."""
+    try:
+        with open(sum_of(program), encoding="ascii") as file:
+            return file.read().strip()
+    except OSError:
+        return ""
 
 
 class Built:
-    """The program below a folder: of a checkout, which has its sources, or of an installation, which has none."""
+    """The programs below a folder: of a checkout, which has its sources, or of an installation, which has none."""
 
     def __init__(self, top=TOP):
         self.top = top
         self.is_installed = not os.path.exists(f"{top}/crates.txt")
-        self.out = top if self.is_installed else f"{top}/crates/cryfs/out"
-        self.program = f"{self.out}/program" if self.is_installed else f"{self.out}/cryfs"
-        # The sum of the sources that the program was built of; its time is that of the last look which found them so. The
-        # other file's time is that of the last look which found them different.
-        self.sum, self.differs = f"{self.program}.sources", f"{self.program}.differs"
+        self.program = self.path(PROGRAMS[0])
+        self.out = os.path.dirname(self.program)
+        # The sum of the sources that all were built of; its time is that of the last look which found them so. The other
+        # file's time is that of the last look which found them different.
+        self.sum, self.differs = sum_of(self.program), f"{self.program}.differs"
 
-    def is_there(self):
-        return os.access(self.program, os.X_OK) and os.path.getsize(self.program) > 0
+    def path(self, name):
+        """Where a program is, as all processors run it."""
+        return f"{self.top}/{installed_name(name)}" if self.is_installed else f"{self.top}/crates/{name}/out/{name}"
 
-    def built_of(self):
-        """The sum of the sources that the program was built of, or nothing."""
-        try:
-            with open(self.sum, encoding="ascii") as file:
-                return file.read().strip()
-        except OSError:
-            return ""
+    def names(self):
+        """The programs that are made of the sources."""
+        with open(f"{self.top}/crates.txt", encoding="utf-8") as file:
+            listed = set(re.findall(r"^(\w+).*:", file.read(), re.MULTILINE))
+        return [it for it in PROGRAMS if it in listed]
+
+    def are_there(self):
+        return all(is_program(self.path(it)) for it in self.names())
+
+    def files(self):
+        """All programs that were built of the same sources as the first one, by their names in an installation."""
+        found = {}
+        for name in self.names():
+            plain, installed = self.path(name), installed_name(name)
+            found.update({installed: plain, wide_of(installed): wide_of(plain)})
+        return {name: it for name, it in found.items() if is_program(it) and built_of(it) == built_of(self.program)}
 
     def sum_sources(self):
         """One sum of all that the proof and the build would read."""
         sys.path.append(f"{self.top}/tools")
         import prove
-        return prove.sum_up(prove.whole("cryfs")[0])
+        return prove.sum_up(prove.whole(self.names())[0])
 
     def is_current(self):
-        """Whether the program was built of the sources as they are. They are summed only where something may be newer than
+        """Whether the programs were built of the sources as they are. They are summed only where something may be newer than
         the last look; a copy may keep an old time, so what counts is also when it came there."""
-        wanted = self.built_of()
-        if not self.is_there() or not wanted:
+        wanted = built_of(self.program)
+        if not wanted or not self.are_there() or any(built_of(self.path(it)) != wanted for it in self.names()):
             return False
         changed = self.last_change()
         if changed < time_of(self.sum):
@@ -81,23 +118,41 @@ class Built:
         except OSError:
             return None
 
-    def to_run(self):
-        """The program, where it is built; a line of standard error says where the sources are others now."""
-        if not self.is_there():
+    def to_run(self, name=PROGRAMS[0]):
+        """A program as this processor runs it, where it is built; a line of standard error says where the sources are others now."""
+        program = self.path(name)
+        if not is_program(program) and self.is_installed:
+            raise Refused(f"{program} isn't there: install it anew")
+        if not is_program(program):
             raise Refused(f"the program isn't built yet: run {self.top}/build, which takes 20 to 30 minutes the first time")
         try:
             if not self.is_installed and not self.is_current():
-                say(NOT_CURRENT if self.built_of() else UNKNOWN)
+                say(NOT_CURRENT if built_of(self.program) else UNKNOWN)
         except OSError as why:
             say(f"the sources can't be looked at ({why}); what was built is run")
-        return self.program
+        return fitting(program)
 
     def version(self):
         """What the program was built of, in a line."""
         if self.is_installed:
-            return f"cryfs (Sergunad), built of the sources {self.built_of()[:16]}"
+            return f"cryfs (Sergunad), built of the sources {built_of(self.program)[:16]}"
         built = "is" if self.is_current() else "isn't"
         return f"cryfs (Sergunad), sources {self.sum_sources()[:16]}; the program {built} built of them"
+
+
+def installed_name(name):
+    """What a program is called in an installation, beside the wrapper `cryfs`: `program`, `program_mount`."""
+    return "program" + name.removeprefix(PROGRAMS[0])
+
+
+def fitting(program):
+    """The program, or the one of the same sources for processors with AVX2 where this is one."""
+    wide, asked = wide_of(program), processor.asked()
+    is_wide_there = is_program(wide) and built_of(wide) == built_of(program) != ""
+    if asked == processor.WIDE and not is_wide_there:
+        raise Refused(f"{processor.ASKED} asks for a program for {asked}, and there is none of these sources")
+    takes_wide = is_wide_there and asked != processor.PLAIN and (asked or processor.is_wide())
+    return wide if takes_wide else program
 
 
 def change_of(seen):
