@@ -7,6 +7,7 @@ import select
 import shutil
 import signal
 import subprocess
+import sys
 import termios
 import time
 
@@ -26,7 +27,10 @@ for crate in crates/*; do
     [ -e "$top/refused" ] && { echo 'a goal is open'; echo "rt: ${crate#crates/} NOT PROVED"; exit 1; }
     echo "logic=proved"; echo "rt: ${crate#crates/} proved"
 done
-mkdir -p crates/cryfs/out; cp "$top/stub" crates/cryfs/out/cryfs; [ -e "$top/half" ] && exit 1; exit 0
+for name in cryfs cryfs_mount; do
+    [ -e crates/$name ] && mkdir -p crates/$name/out && cp "$top/stub" crates/$name/out/$name
+done
+[ -e "$top/half" ] && exit 1; exit 0
 """
 # What builds for processors with AVX2: nothing, where the tree has no program `wide`.
 RATTLE = r"""#!/bin/sh
@@ -67,16 +71,27 @@ done
 sleep 0.2
 echo closed >>"$got"
 """
+# The wrapper's modules, by which a case asks what they know.
+sys.path[:0] = [f"{TOP}/wrapper"]
 # The most seconds that a run may take, so that a busy machine fails nothing.
 LIMIT = 60
 # What an installation takes of the documents, README.md aside.
 INSTALLED_PAGES = ("docs/USING.md", "docs/FORMATS.md", "docs/PERFORMANCE.md")
 
 
+def programs_here():
+    """The programs that were built in this checkout and that this processor runs."""
+    import built
+    import processor
+
+    found = [BUILT, built.wide_of(BUILT)] if processor.is_wide() else [BUILT]
+    return [it for it in found if os.path.exists(it)]
+
+
 class Tree:
     """A folder with the script, a line of source for each crate, and an `rt` of its own."""
 
-    def __init__(self, folder, program=BUILT):
+    def __init__(self, folder, program=None):
         self.top, self.program, self.started, self.exported = folder, program, [], {}
         os.makedirs(f"{folder}/bin")
         for name in ("cryfs", "build", "HANDLES", "README.md", "tools/prove.py", "tools/wide.py", *INSTALLED_PAGES):
