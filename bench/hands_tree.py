@@ -92,7 +92,7 @@ class Tree:
     """A folder with the script, a line of source for each crate, and an `rt` of its own."""
 
     def __init__(self, folder, program=None):
-        self.top, self.program, self.started, self.exported = folder, program, [], {}
+        self.top, self.program, self.started, self.exported = folder, program or BUILT, [], {}
         os.makedirs(f"{folder}/bin")
         for name in ("cryfs", "build", "HANDLES", "README.md", "tools/prove.py", "tools/wide.py", *INSTALLED_PAGES):
             os.makedirs(os.path.dirname(f"{folder}/{name}"), exist_ok=True)
