@@ -3,7 +3,7 @@
 
 Nothing is proved here: each case gets a tree of its own, in which the sources are a line each, `rt` is a script that
 writes down how it was called and puts the program where the real one puts it, and the program is a script that prints
-its words and each line of its input. The cases of `hands_real.py`, `hands_copies.py`, `hands_checks.py`,
+its words and each line of its input, or that of `hands_model.py`. The cases of `hands_real.py`, `hands_copies.py`, `hands_checks.py`,
 `hands_removing.py` and `hands_updating.py`, and some of `hands_files.py`, take the program that was built in this checkout,
 and then the one for AVX2, where this processor has that. `--program FILE` has them take FILE alone. Words of this script name
 the cases to run; `built` are those that take such a program, `unbuilt` the others. Without words all are run. A case that finds
@@ -13,6 +13,7 @@ import subprocess
 import sys
 import tempfile
 
+import hands_asking
 import hands_build
 import hands_checks
 import hands_copies
@@ -26,7 +27,7 @@ import hands_updating
 import hands_words
 from hands_tree import BUILT, Skipped, Tree, programs_here
 
-CASES = hands_build.CASES + hands_processor.CASES + hands_words.CASES + hands_terminal.CASES + hands_files.CASES
+CASES = hands_build.CASES + hands_processor.CASES + hands_words.CASES + hands_terminal.CASES + hands_files.CASES + hands_asking.CASES
 REAL = hands_real.CASES + hands_golden.CASES + hands_copies.CASES + hands_files.REAL + hands_checks.CASES + hands_removing.CASES + hands_updating.CASES
 
 

@@ -102,8 +102,7 @@ class Asker(Session):
         """Prints the line in which it ended, where there is one; the status, which is its own where the program's tells nothing."""
         line = line and line + b"\n"
         try:
-            while line:
-                line = line[os.write(self.output, line):]
+            telling.write_whole(self.output, line)
         except OSError:
             text, own = "output fault", OUTPUT_FAULT
         if status == 0 and text:

@@ -58,7 +58,7 @@ class Session:
     def answer(self, lines, shown=True):
         """Gives lines on whose last one is answered, and passes its answer on to its end."""
         try:
-            os.write(self.input, lines)
+            telling.write_whole(self.input, lines)
         except OSError:
             return self.drain()
         left, first, piece = 1, True, b""
@@ -85,8 +85,7 @@ class Session:
     def show(self, came):
         """Passes an answer on. Where nobody takes it the program is told so at its next one."""
         try:
-            while came:
-                came = came[os.write(self.output, came):]
+            telling.write_whole(self.output, came)
         except OSError:
             os.close(self.answers)
             self.ended = self.lost = True
@@ -192,7 +191,7 @@ def run_typed(program, call, first):
         if line is None or line.strip() in (b"exit", b"quit"):
             break
         if line.strip() == b"help":
-            os.write(2, telling.read_text("lines.txt").encode())
+            telling.write_whole(2, telling.read_text("lines.txt").encode())
         elif len(line) >= TERMINAL_LINE:
             say(CUT)
         elif line:
@@ -230,8 +229,7 @@ def hand_on(first, into, lives):
     piece = first
     while piece:
         try:
-            while piece:
-                piece = piece[os.write(into, piece):]
+            telling.write_whole(into, piece)
         except OSError:
             return True
         try:

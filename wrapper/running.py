@@ -29,9 +29,7 @@ def kept_apart(file):
 def in_memory(given=b""):
     """A file without a name that holds these bytes, at its start."""
     file = kept_apart(os.memfd_create("cryfs"))
-    left = memoryview(given)
-    while left:
-        left = left[os.write(file, left):]
+    telling.write_whole(file, given)
     os.lseek(file, 0, os.SEEK_SET)
     return file
 
@@ -172,8 +170,7 @@ def handed_on(side):
 def shown(said):
     """To standard error, which may be closed by now."""
     try:
-        while said:
-            said = said[os.write(2, said):]
+        telling.write_whole(2, said)
     except OSError:
         pass
 

@@ -23,10 +23,17 @@ class Refused(Exception):
         self.status = status
 
 
+def write_whole(file, text):
+    """Writes all of it: a stop or a signal in the midst of a write ends that behind a part."""
+    left = memoryview(text)
+    while left:
+        left = left[os.write(file, left) :]
+
+
 def say(text):
     """A line to standard error, which may be closed or full."""
     try:
-        os.write(2, os.fsencode(f"cryfs: {text}\n"))
+        write_whole(2, os.fsencode(f"cryfs: {text}\n"))
     except OSError:
         pass
 
