@@ -22,7 +22,7 @@ def modelled(tree):
 
 def wants(tree, name, **lines):
     """Sets what the model does, or answers, at lines that begin so."""
-    tree.write(f"{OUT}/{name}", json.dumps({it.replace("_", " "): what for it, what in lines.items()}))
+    tree.write(f"{OUT}/{name}", json.dumps({it.replace("__", " /").replace("_", " "): what for it, what in lines.items()}))
 
 
 def asked(tree):
@@ -65,4 +65,68 @@ def a_long_line_comes_whole_through_stops_and_signals(tree):
         line(tree, "rm", "/big")
 
 
-CASES = [a_long_line_comes_whole_through_stops_and_signals]
+def a_folder_that_is_exchanged_is_not_followed(tree):
+    modelled(tree)
+    for what in ("s", "other"):
+        tree.write("f/d/kept", "1")
+        tree.write("f/z", "1")
+        tree.write("other/secret", "1")
+        # The folder above has been listed by then, and this one not yet.
+        put = f"ln -s {tree.top}/{what} f/d" if what == "s" else "cp -r other f/d"
+        wants(tree, "hooks", mkdir__d=f"cd {tree.top}; mv f/d moved; {put}")
+        status, out, errors = updated(tree, "f", "/")
+        same((status, out), (0, "updated 1 1 0 1\n"), errors)
+        has(errors, "cryfs: f/d was exchanged for ", " meanwhile: passed over\n")
+        same(line(tree, "ls", "/"), "list 2\nd d\nf z\n", "what is there")
+        same(line(tree, "ls", "/d"), "list 0\n", "nothing came from elsewhere")
+        wants(tree, "hooks")
+        same(tree.run("-c", f"rm -rf {tree.top}/f/d {tree.top}/moved", script="/bin/sh")[0], 0, "away")
+        same(updated(tree, "f", "/", "--delete")[0], 0, "again")
+        line(tree, "rm", "/z")
+
+
+def what_goes_or_is_exchanged_is_passed_over(tree):
+    modelled(tree)
+    for name in ("a", "b", "c", "d", "saved"):
+        tree.write(f"f/{name}", name)
+    os.symlink("a", f"{tree.top}/f/link")
+    changes = ("ln -sf ../s/cryfs.localstate b", "rm c", "rm d; mkfifo d", "rm link; mkdir link", "echo new >new; mv new saved")
+    wants(tree, "hooks", mkdir__=f"cd {tree.top}/f; {'; '.join(changes)}")
+    status, out, errors = updated(tree, "f", "/")
+    same((status, out), (0, "updated 0 2 0 5\n"), errors)
+    same(errors.splitlines(), ["cryfs: f/b was exchanged for something else meanwhile: passed over", "cryfs: f/c has gone meanwhile: passed over",
+                               "cryfs: f/d is no file any more: passed over",
+                               "cryfs: f/link was exchanged for something else meanwhile: passed over"], "what is named")
+    same(line(tree, "ls", "/"), "list 2\nf a\nf saved\n", "what is there")
+    wants(tree, "hooks")
+    for name in ("c", "gone"):
+        tree.write(f"f/{name}", name)
+    os.remove(f"{tree.top}/f/d")
+    same(updated(tree, "f", "/")[0], 0, "again")
+    wants(tree, "hooks", ls__=f"rm -f {tree.top}/f/gone")
+    same(updated(tree, "f", "/", "--delete")[0], 0, "one that goes before it is listed")
+    has(line(tree, "ls", "/"), "f c\n")
+
+
+def deep_folders_are_reached(tree):
+    modelled(tree)
+    deep = "/".join("x" for _ in range(1500))
+    path = f"{tree.top}/f"
+    os.mkdir(path)
+    here = os.open(path, os.O_RDONLY)
+    for it in deep.split("/"):
+        os.mkdir(it, dir_fd=here)
+        below = os.open(it, os.O_RDONLY, dir_fd=here)
+        os.close(here)
+        here = below
+    os.close(os.open("file", os.O_WRONLY | os.O_CREAT, dir_fd=here))
+    os.close(here)
+    found = updated(tree, "f", "/")
+    # (python's own way would go too deep for itself)
+    tree.run("-rf", "f", script="/bin/rm")
+    same(found, (0, "updated 1500 1 0 0\n", ""), "a deep tree")
+    same(line(tree, "ls", "/" + deep), "list 1\nf file\n", "the deepest folder")
+
+
+CASES = [a_long_line_comes_whole_through_stops_and_signals, a_folder_that_is_exchanged_is_not_followed, what_goes_or_is_exchanged_is_passed_over,
+         deep_folders_are_reached]

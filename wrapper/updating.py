@@ -2,14 +2,16 @@
 
 A file counts as unchanged where its length and its time of modification are those of the file here. Where the time alone
 differs its bytes are compared. A new or changed file is written in a directory of the update's own, gets its time, and is
-then moved to its place. So a stop leaves the old file or the new one, and in a large directory no entry but its own moves."""
-import os
-import stat
+then moved to its place. So a stop leaves the old file or the new one, and in a large directory no entry but its own moves.
 
+The folder may change meanwhile. What has gone, or was exchanged for something else, is passed over and named."""
+import os
+
+import host_folder
 from asking import joined, written
+from host_folder import Exchanged, kind_of, place_of
 from removing import KINDS, Removal
 from telling import say
-from words import lies_within, same_folder
 
 # The bytes that a line carries, as hexadecimal digits: a line has 1,048,576 bytes at most.
 PIECE = 500000
@@ -37,7 +39,7 @@ class Update(Removal):
     def __init__(self, program, call, first):
         self.made, self.bytes = dict.fromkeys(KINDS, 0), 0
         self.beside = self.draft = None
-        self.barred = {(it.st_dev, it.st_ino) for it in map(os.stat, (call.blocks, call.state))}
+        self.barred = {place_of(it) for it in map(os.stat, (call.blocks, call.state))}
         super().__init__(program, call, first)
 
     def host_fails(self, path, why):
@@ -47,48 +49,73 @@ class Update(Removal):
         self.fault = HOST_FAULT
         self.stop()
 
+    def pass_over(self, path, why):
+        """Names what isn't copied in this run."""
+        self.hide()
+        say(f"{os.fsdecode(path)} {why}: passed over")
+
     def entries(self, folder):
-        """What is in a folder here by names as they are printed, each with its path and its numbers. What is no file, folder or link is left out
-        where that is asked, and else a fault, as is a name that is no text."""
+        """What is in a folder here by names as they are printed, each with its name and its numbers; none of what has gone since."""
         found = {}
-        for entry in os.scandir(folder):
-            numbers = entry.stat(follow_symlinks=False)
-            if not any(it(numbers.st_mode) for it in (stat.S_ISREG, stat.S_ISDIR, stat.S_ISLNK)):
-                if not self.call.leaves_out():
-                    self.host_fails(entry.path, "no file, folder or link")
-                self.hide()
-                say(f"{os.fsdecode(entry.path)} is no file, folder or link: left out")
-                continue
-            if (numbers.st_dev, numbers.st_ino) in self.barred:
-                self.host_fails(entry.path, "BLOCKS or STATE, which isn't copied")
-            if not is_text(entry.name):
-                self.host_fails(entry.path, "its name is no text")
-            found[escaped(entry.name)] = entry.path, numbers
+        for name, numbers in folder.rows():
+            if numbers is None:
+                self.pass_over(folder.path_of(name), "has gone meanwhile")
+                # (so that nothing is removed for it)
+                found[escaped(name)] = name, None
+            elif self.is_taken(folder.path_of(name), name, numbers):
+                found[escaped(name)] = name, numbers
         return found
 
+    def is_taken(self, path, name, numbers):
+        """Whether a row can be copied. What is no file, folder or link is left out where that is asked, and else a fault, as is a name that is no text."""
+        if not kind_of(numbers):
+            if not self.call.leaves_out():
+                self.host_fails(path, "no file, folder or link")
+            self.hide()
+            say(f"{os.fsdecode(path)} is no file, folder or link: left out")
+            return False
+        if place_of(numbers) in self.barred:
+            self.host_fails(path, "BLOCKS or STATE, which isn't copied")
+        if not is_text(name):
+            self.host_fails(path, "its name is no text")
+        return True
+
     def update_directory(self, folder, path):
-        """Brings one directory to what the folder has, and gives the pairs of those below it."""
+        """Brings one directory to what the folder has, and gives those below it: each its name here, its numbers, and its path."""
         rows = dict(reversed(it) for it in self.left_in(path))
         found = self.entries(folder)
         for name in sorted(rows, reverse=True) if self.call.deletes() else ():
             if name not in found:
                 self.remove_one(rows.pop(name), joined(path, name))
         below = []
-        for name in sorted(found):
-            here, numbers = found[name]
-            kind = {stat.S_IFDIR: b"d", stat.S_IFREG: b"f"}.get(stat.S_IFMT(numbers.st_mode), b"l")
-            there, at = rows.get(name), joined(path, name)
-            if there not in (None, kind):
-                if not self.call.deletes():
-                    self.fail(b"error exists", at)
-                self.remove_one(there, at)
-                there = None
-            if kind == b"d":
-                below.append((here, at))
-                self.update_folder(at, there)
-            else:
-                (self.update_file if kind == b"f" else self.update_link)(here, at, there)
+        for printed in sorted(it for it in found if found[it][1]):
+            name, numbers = found[printed]
+            at = joined(path, printed)
+            self.read_here(folder.path_of(name), lambda: self.update_row(folder, name, kind_of(numbers), at, rows.get(printed)))
+            if kind_of(numbers) == b"d":
+                below.append((name, numbers, at))
         return below
+
+    def read_here(self, path, work):
+        """What the work gives, which reads what is at this path here. Nothing where that was exchanged; it stops where the system refuses."""
+        try:
+            return work()
+        except Exchanged as why:
+            self.pass_over(path, why)
+        except OSError as why:
+            self.host_fails(path, why.strerror)
+
+    def update_row(self, folder, name, kind, at, there):
+        """Brings one row to what the folder has; of a directory that it is there."""
+        if there not in (None, kind):
+            if not self.call.deletes():
+                self.fail(b"error exists", at)
+            self.remove_one(there, at)
+            there = None
+        if kind == b"d":
+            self.update_folder(at, there)
+        else:
+            (self.update_file if kind == b"f" else self.update_link)(folder, name, at, there)
 
     def remove_one(self, kind, path):
         """Removes a row, a directory with all below it."""
@@ -118,16 +145,16 @@ class Update(Removal):
         self.have(b"mv " + self.draft + b" " + path, path)
         self.count(kind)
 
-    def update_link(self, here, path, there):
-        target = os.readlink(here)
+    def update_link(self, folder, name, path, there):
+        target = folder.target(name)
         if not is_text(target):
-            self.host_fails(here, "its target is no text")
+            self.host_fails(folder.path_of(name), "its target is no text")
         if not there or self.ask(b"readlink " + path) != [b"link " + escaped(target)]:
             self.begin_draft(b"symlink " + escaped(target) + b" ", path)
             self.end_draft(b"l", path)
 
-    def update_file(self, here, path, there):
-        with open(here, "rb", opener=without_links) as file:
+    def update_file(self, folder, name, path, there):
+        with folder.open_file(name) as file:
             numbers = os.fstat(file.fileno())
             if there and self.is_unchanged(file, numbers, path):
                 return
@@ -182,22 +209,30 @@ class Update(Removal):
     def update(self, folder, path):
         """Brings the directory at the path to what the folder has."""
         self.beside = joined(path, BESIDE)
-        if os.path.lexists(os.path.join(folder, BESIDE)):
-            self.host_fails(os.path.join(folder, BESIDE), "an update needs this name itself")
+        if os.path.lexists(folder.path_of(BESIDE)):
+            self.host_fails(folder.path_of(BESIDE), "an update needs this name itself")
         for kind, name in self.left_in(path):
             # (an update that was stopped left it)
             if name == BESIDE:
                 self.remove_one(kind, self.beside)
         self.removed = dict.fromkeys(KINDS, 0)
-        left = [(folder, path)]
-        while left:
-            here, at = left.pop()
-            try:
-                left += reversed(self.update_directory(here, at))
-            except OSError as why:
-                self.host_fails(os.fsencode(why.filename or here), why.strerror)
+        self.update_below(folder, path)
         if self.draft:
             self.have(b"rmdir " + self.beside, path)
+
+    def update_below(self, folder, path):
+        """Brings a directory and all below it to what the folder has. The folders from this one down to the one at work are open."""
+        open_ones = [(folder, iter(self.update_directory(folder, path)))]
+        while open_ones:
+            above, left = open_ones[-1]
+            name, numbers, at = next(left, (None, None, None))
+            if name is None:
+                open_ones.pop()[0].close()
+                continue
+            here = self.read_here(above.path_of(name), lambda: above.folder(name, numbers))
+            if here:
+                below = self.read_here(here.path, lambda: self.update_directory(here, at))
+                open_ones.append((here, iter(below or ())))
 
     def updated_lines(self):
         """What it made, and below it what it removed, where that was asked."""
@@ -214,20 +249,16 @@ def is_text(name):
     return True
 
 
-def without_links(path, flags):
-    """Opens what isn't a link, and doesn't wait for a pipe's other end."""
-    return os.open(path, flags | os.O_NOFOLLOW | os.O_NONBLOCK)
-
-
 def run(program, call, first):
     """Brings the directory that the call names to what its folder has."""
     update = Update(program, call, first)
-    folder = os.fsencode(call.rest[1])
+    host_folder.let_open_many()
+    path = os.fsencode(call.rest[1])
 
     def work():
-        for it in (call.blocks, call.state):
-            if same_folder(it, folder) or lies_within(folder, it):
-                update.host_fails(folder, "it is in BLOCKS or STATE")
+        folder = update.read_here(path, lambda: host_folder.open_folder(path))
+        if folder.lies_in(update.barred):
+            update.host_fails(path, "it is in BLOCKS or STATE")
         update.update(folder, written(call.rest[2]))
         return (update.updated_lines(),)
 
