@@ -108,6 +108,19 @@ def what_goes_or_is_exchanged_is_passed_over(tree):
     has(line(tree, "ls", "/"), "f c\n")
 
 
+def an_alarm_at_a_link_is_told(tree):
+    modelled(tree)
+    os.makedirs(f"{tree.top}/f")
+    os.symlink("a", f"{tree.top}/f/link")
+    same(updated(tree, "f", "/")[0], 0, "an update")
+    wants(tree, "answers", readlink="fault directory")
+    same(updated(tree, "f", "/"), (14, "fault directory /link\n", "cryfs: copy stopped\n"), "a fault")
+    wants(tree, "answers", readlink="error invalid")
+    same(updated(tree, "f", "/"), (13, "error invalid /link\n", "cryfs: copy refused\n"), "an error")
+    wants(tree, "answers", readlink="violation missing")
+    same(updated(tree, "f", "/"), (5, "violation missing /link\n", "cryfs: integrity violation\n"), "a violation")
+
+
 def deep_folders_are_reached(tree):
     modelled(tree)
     deep = "/".join("x" for _ in range(1500))
@@ -129,4 +142,4 @@ def deep_folders_are_reached(tree):
 
 
 CASES = [a_long_line_comes_whole_through_stops_and_signals, a_folder_that_is_exchanged_is_not_followed, what_goes_or_is_exchanged_is_passed_over,
-         deep_folders_are_reached]
+         an_alarm_at_a_link_is_told, deep_folders_are_reached]

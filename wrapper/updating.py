@@ -149,9 +149,16 @@ class Update(Removal):
         target = folder.target(name)
         if not is_text(target):
             self.host_fails(folder.path_of(name), "its target is no text")
-        if not there or self.ask(b"readlink " + path) != [b"link " + escaped(target)]:
+        if not there or self.link_at(path) != escaped(target):
             self.begin_draft(b"symlink " + escaped(target) + b" ", path)
             self.end_draft(b"l", path)
+
+    def link_at(self, path):
+        """The target of the link there, as it is printed."""
+        answer = self.ask(b"readlink " + path)[0]
+        if not answer.startswith(b"link "):
+            self.fail(answer, path)
+        return answer[5:]
 
     def update_file(self, folder, name, path, there):
         with folder.open_file(name) as file:
