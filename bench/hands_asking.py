@@ -121,6 +121,23 @@ def an_alarm_at_a_link_is_told(tree):
     same(updated(tree, "f", "/"), (5, "violation missing /link\n", "cryfs: integrity violation\n"), "a violation")
 
 
+def names_are_told_without_their_escapes(tree):
+    modelled(tree)
+    odd = "\x1b]0;title\x07 \n\\x0a \u202e\x85ü"
+    told = "\\x1b]0;title\\x07 \\x0a\\x5cx0a \\xe2\\x80\\xae\\xc2\\x85ü"
+    os.makedirs(f"{tree.top}/f/{odd}")
+    os.mkfifo(f"{tree.top}/f/{odd}/pipe")
+    has(updated(tree, "f", "/")[2], f"cryfs: f/{told}/pipe: no file, folder or link")
+    has(updated(tree, "f", "/", "--leave-out")[2], f"cryfs: f/{told}/pipe is no file, folder or link: left out\n")
+    has(updated(tree, f"f/{odd}/none", "/")[2], f"cryfs: f/{told}/none: No such file or directory\n")
+    has(tree.run("b", odd, "ls", "/")[2], f"/{told}: name the right folder")
+    with open(f"{tree.top}/f/".encode() + b"\xff\x9b", "wb"):
+        pass
+    os.remove(f"{tree.top}/f/{odd}/pipe")
+    has(updated(tree, "f", "/")[2], "cryfs: f/\\xff\\x9b: its name is no text")
+    same(updated(tree, "f", "/\x1b[31m\x7f")[1], "error no-entry /\\x1b[31m\\x7f\n", "a path of the file system")
+
+
 def deep_folders_are_reached(tree):
     modelled(tree)
     deep = "/".join("x" for _ in range(1500))
@@ -142,4 +159,4 @@ def deep_folders_are_reached(tree):
 
 
 CASES = [a_long_line_comes_whole_through_stops_and_signals, a_folder_that_is_exchanged_is_not_followed, what_goes_or_is_exchanged_is_passed_over,
-         an_alarm_at_a_link_is_told, deep_folders_are_reached]
+         an_alarm_at_a_link_is_told, names_are_told_without_their_escapes, deep_folders_are_reached]

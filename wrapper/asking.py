@@ -116,5 +116,5 @@ def joined(path, name):
 
 
 def written(word):
-    """A path as a word of a line: a newline in it would end the line."""
-    return os.fsencode(word).replace(b"\n", b"\\x0a")
+    """A path as a word of a line: a newline in it would end the line, and others would be seen in an answer."""
+    return b"".join(bytes([it]) if it >= 0x20 and it != 0x7F else b"\\x%02x" % it for it in os.fsencode(word))

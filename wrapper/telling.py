@@ -30,10 +30,20 @@ def write_whole(file, text):
         left = left[os.write(file, left) :]
 
 
+def plain(text):
+    """The text with `\\x` and two digits for each byte of what a terminal doesn't show as it stands, as a line's end or what sets a colour."""
+    return "".join(it if it == " " or it.isprintable() else "".join(f"\\x{byte:02x}" for byte in os.fsencode(it)) for it in text)
+
+
+def named(path):
+    """A path of this machine as lines tell it: it may hold any bytes, and is told so that no two look the same."""
+    return plain(os.fsdecode(path).replace("\\", "\\x5c"))
+
+
 def say(text):
     """A line to standard error, which may be closed or full."""
     try:
-        write_whole(2, os.fsencode(f"cryfs: {text}\n"))
+        write_whole(2, os.fsencode(f"cryfs: {plain(str(text))}\n"))
     except OSError:
         pass
 

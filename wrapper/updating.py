@@ -11,7 +11,7 @@ import host_folder
 from asking import joined, written
 from host_folder import Exchanged, kind_of, place_of
 from removing import KINDS, Removal
-from telling import say
+from telling import named, say
 
 # The bytes that a line carries, as hexadecimal digits: a line has 1,048,576 bytes at most.
 PIECE = 500000
@@ -45,14 +45,14 @@ class Update(Removal):
     def host_fails(self, path, why):
         """Ends it with a fault of the folder here."""
         self.hide()
-        say(f"{os.fsdecode(path)}: {why}")
+        say(f"{named(path)}: {why}")
         self.fault = HOST_FAULT
         self.stop()
 
     def pass_over(self, path, why):
         """Names what isn't copied in this run."""
         self.hide()
-        say(f"{os.fsdecode(path)} {why}: passed over")
+        say(f"{named(path)} {why}: passed over")
 
     def entries(self, folder):
         """What is in a folder here by names as they are printed, each with its name and its numbers; none of what has gone since."""
@@ -72,7 +72,7 @@ class Update(Removal):
             if not self.call.leaves_out():
                 self.host_fails(path, "no file, folder or link")
             self.hide()
-            say(f"{os.fsdecode(path)} is no file, folder or link: left out")
+            say(f"{named(path)} is no file, folder or link: left out")
             return False
         if place_of(numbers) in self.barred:
             self.host_fails(path, "BLOCKS or STATE, which isn't copied")

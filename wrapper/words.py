@@ -2,7 +2,7 @@
 import os
 
 from looking import RECORD, is_marked
-from telling import USAGE, Refused, line_forms
+from telling import USAGE, Refused, line_forms, named
 
 # The words of each line, as help shows them.
 LINES = line_forms()
@@ -95,10 +95,10 @@ class Call:
             return
         for inner, outer, what in ((self.state, self.blocks, "STATE lies in BLOCKS"), (self.blocks, self.state, "BLOCKS lies in STATE")):
             if same_folder(inner, outer):
-                raise Refused(f"STATE and BLOCKS are one folder, {real(outer)}: who holds the blocks could change the record. "
+                raise Refused(f"STATE and BLOCKS are one folder, {named(real(outer))}: who holds the blocks could change the record. "
                               "Name another STATE, which stays on this machine")
             if lies_within(inner, outer):
-                raise Refused(f"{what}: {real(inner)} is below {real(outer)}. Name two folders of which none holds the other; "
+                raise Refused(f"{what}: {named(real(inner))} is below {named(real(outer))}. Name two folders of which none holds the other; "
                               "STATE stays on this machine")
         if self.command != "create":
             check_record(self.state)
@@ -110,10 +110,10 @@ def check_record(state):
     try:
         os.lstat(os.path.join(state, RECORD))
     except (FileNotFoundError, NotADirectoryError):
-        raise Refused(f"no record of a file system in STATE, {real(state)}: name the right folder, or bring back its last copy; "
+        raise Refused(f"no record of a file system in STATE, {named(real(state))}: name the right folder, or bring back its last copy; "
                       "only create makes one")
     except OSError as problem:
-        raise Refused(f"STATE, {real(state)}, can't be read: {problem.strerror}")
+        raise Refused(f"STATE, {named(real(state))}, can't be read: {problem.strerror}")
 
 
 def split_folders(words, environment):
