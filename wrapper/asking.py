@@ -23,20 +23,21 @@ class Asker(Session):
     refused = stopped = ("", 0)
 
     def __init__(self, program, call, first):
-        self.came, self.met, self.fault = b"", None, None
+        # (in pieces, which are joined once: an answer has a megabyte and more)
+        self.came, self.met, self.fault = [], None, None
         self.shown_at, self.is_shown = time.monotonic(), False
         super().__init__(program, call, first)
 
     def show(self, came):
-        self.came += came
+        self.came.append(came)
 
     def ask(self, line):
         """The lines that answer this one."""
         if self.ended or self.signals:
             raise Stopped
-        self.came = b""
+        self.came = []
         self.answer(line + b"\n")
-        answer = self.came.split(b"\n")[:-1]
+        answer = b"".join(self.came).split(b"\n")[:-1]
         if not answer or self.signals:
             raise Stopped
         return answer

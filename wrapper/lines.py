@@ -14,6 +14,8 @@ PROMPT = "cryfs> "
 # The program's statuses where its input couldn't be read, and where an answer couldn't be written.
 INPUT_FAULT = 8
 OUTPUT_FAULT = 9
+# More bytes than a line has that tells how many rows follow.
+LIST_LINE = 32
 ENDING = (signal.SIGINT, signal.SIGTERM, signal.SIGHUP)
 BANNER = "type lines: help shows them, exit or Ctrl-D ends. "
 KEPT = "What was answered ok is kept by sync and at the end, also after one Ctrl-C; a second Ctrl-C stops at once"
@@ -61,19 +63,18 @@ class Session:
             telling.write_whole(self.input, lines)
         except OSError:
             return self.drain()
-        left, first, piece = 1, True, b""
+        left, start, more = 1, b"", None
         while left > 0:
             came = self.take()
             if not came:
                 return None
-            *whole, piece = (piece + came).split(b"\n")
             if shown:
                 self.show(came)
-            for line in whole:
-                left -= 1
-                if first and line.startswith(b"list ") and line[5:].isdigit():
-                    left += int(line[5:])
-                first = False
+            left -= came.count(b"\n")
+            if more is None:
+                start += came[:LIST_LINE]
+                more = lines_behind(start)
+                left += more or 0
         return None
 
     def take(self):
@@ -108,6 +109,14 @@ class Session:
             status = OUTPUT_FAULT
             os.write(self.errors, b"cryfs: output fault\n")
         running.end(status, self.errors, self.call)
+
+
+def lines_behind(start):
+    """How many lines of an answer follow its first one, by how that begins; None where too little of it came."""
+    line, mark, _ = start.partition(b"\n")
+    if mark and line.startswith(b"list ") and line[5:].isdigit():
+        return int(line[5:])
+    return 0 if mark or len(start) >= LIST_LINE else None
 
 
 def typed_line(read):
