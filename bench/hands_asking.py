@@ -127,15 +127,138 @@ def names_are_told_without_their_escapes(tree):
     told = "\\x1b]0;title\\x07 \\x0a\\x5cx0a \\xe2\\x80\\xae\\xc2\\x85ü"
     os.makedirs(f"{tree.top}/f/{odd}")
     os.mkfifo(f"{tree.top}/f/{odd}/pipe")
-    has(updated(tree, "f", "/")[2], f"cryfs: f/{told}/pipe: no file, folder or link")
+    has(updated(tree, "f", "/")[2], f"cryfs: f/{told}/pipe is no file, folder or link: --leave-out goes on without it\n")
     has(updated(tree, "f", "/", "--leave-out")[2], f"cryfs: f/{told}/pipe is no file, folder or link: left out\n")
     has(updated(tree, f"f/{odd}/none", "/")[2], f"cryfs: f/{told}/none: No such file or directory\n")
     has(tree.run("b", odd, "ls", "/")[2], f"/{told}: name the right folder")
     with open(f"{tree.top}/f/".encode() + b"\xff\x9b", "wb"):
         pass
     os.remove(f"{tree.top}/f/{odd}/pipe")
-    has(updated(tree, "f", "/")[2], "cryfs: f/\\xff\\x9b: its name is no text")
+    has(updated(tree, "f", "/")[2], "cryfs: f/\\xff\\x9b has a name that is no text: --leave-out")
     same(updated(tree, "f", "/\x1b[31m\x7f")[1], "error no-entry /\\x1b[31m\\x7f\n", "a path of the file system")
+
+
+def a_row_of_another_kind_is_there_until_the_new_one_is(tree):
+    modelled(tree)
+    tree.write("f/a/b/c", "1")
+    tree.write("f/x", "1")
+    os.symlink("a", f"{tree.top}/f/y")
+    same(updated(tree, "f", "/")[0], 0, "the old rows")
+    for it in ("a", "x", "y"):
+        tree.run("-rf", f"f/{it}", script="/bin/rm")
+    tree.write("f/a", "file")
+    tree.write("f/y", "file")
+    tree.write("f/x/d", "1")
+    asked(tree)
+    same(updated(tree, "f", "/")[1:], ("error exists /a\n", "cryfs: copy refused\n"), "without --delete")
+    same(updated(tree, "f", "/", "--delete"), (0, "updated 1 3 0 9\nremoved 2 2 1\n", ""), "with it")
+    lines = [it for it in asked(tree) if it.partition(" ")[0] in ("mv", "mkdir", "rm", "rmdir", "mkfile")]
+    new, old = "/.sergunad-update/new", "/.sergunad-update/old"
+    same(lines, ["mkdir /.sergunad-update", f"mkfile {new}", "rm /a/b/c", "rmdir /a/b", f"mv /a {old}", f"mv {new} /a", f"rmdir {old}",
+                 f"mv /x {old}", "mkdir /x", f"rm {old}", f"mkfile {new}", f"mv /y {old}", f"mv {new} /y", f"rm {old}",
+                 f"mkfile {new}", f"mv {new} /x/d", "rmdir /.sergunad-update"], "the lines that change")
+    same(line(tree, "ls", "/"), "list 3\nf a\nd x\nf y\n", "what is there")
+
+
+def an_exchange_is_whole_or_undone(tree):
+    modelled(tree)
+    tree.write("f/a", "1")
+    same(updated(tree, "f", "/")[0], 0, "the old row")
+    os.remove(f"{tree.top}/f/a")
+    os.symlink("b", f"{tree.top}/f/a")
+    wants(tree, "answers", **{"mv__.sergunad-update/new": "spent"})
+    same(updated(tree, "f", "/", "--delete"), (14, "spent /a\n", "cryfs: copy stopped\n"), "a second move that is refused")
+    same((line(tree, "ls", "/"), line(tree, "stat", "/a")[:6]), ("list 2\nd .sergunad-update\nf a\n", "stat f"), "the old row")
+    wants(tree, "answers")
+    wants(tree, "pauses", mv__a=f"kill -TERM $(cat {tree.top}/pid); sleep 1")
+    same(tree.run("-c", "echo $$ >pid; exec ./cryfs b s update f / --delete", given=b"pw\n", script="/bin/sh")[:2], (-signal.SIGTERM, ""), "a signal")
+    has(line(tree, "ls", "/"), "l a\n")
+    wants(tree, "pauses")
+    same(updated(tree, "f", "/", "--delete"), (0, "updated 0 0 0 0\nremoved 0 0 0\n", ""), "again")
+    same(line(tree, "ls", "/"), "list 1\nl a\n", "what is left")
+
+
+def rows_of_that_name_which_are_no_updates_stay(tree):
+    modelled(tree)
+    tree.write("f/a", "1")
+    for lines in (("mkfile /.sergunad-update",), ("symlink x /.sergunad-update",), ("mkdir /.sergunad-update", "mkfile /.sergunad-update/mine"),
+                  ("mkdir /.sergunad-update", "mkdir /.sergunad-update/new")):
+        for it in lines:
+            same(line(tree, *it.split()), "ok\n", it)
+        before = line(tree, "ls", "/")
+        for words in ((), ("--delete",)):
+            same(updated(tree, "f", "/", *words), (13, "error exists /.sergunad-update\n", "cryfs: copy refused\n"), lines)
+        same(line(tree, "ls", "/"), before, "what is there")
+        same(tree.run("b", "s", "rm", "-r", "/.sergunad-update", given=b"pw\n")[0], 0, "away")
+    for it in ("mkdir /.sergunad-update", "mkfile /.sergunad-update/new", "mkdir /.sergunad-update/old", "mkfile /.sergunad-update/old/x"):
+        line(tree, *it.split())
+    same(updated(tree, "f", "/"), (0, "updated 0 1 0 1\n", ""), "what an update left")
+    same(line(tree, "ls", "/"), "list 1\nf a\n", "it went")
+
+
+def an_empty_folder_deletes_nothing_unasked(tree):
+    modelled(tree)
+    tree.write("f/d/a", "1")
+    same(updated(tree, "f", "/")[0], 0, "an update")
+    os.makedirs(f"{tree.top}/g")
+    status, out, errors = updated(tree, "g", "/", "--delete")
+    same((status, out), (1, ""), errors)
+    has(errors, "cryfs: FOLDER has nothing to copy, and all 1 rows of PATH would go", "--delete-all")
+    os.mkfifo(f"{tree.top}/g/pipe")
+    same(updated(tree, "g", "/", "--delete", "--leave-out")[0], 1, "with a pipe alone")
+    os.remove(f"{tree.top}/g/pipe")
+    same(line(tree, "ls", "/d"), "list 1\nf a\n", "all is there")
+    same(updated(tree, "g", "/"), (0, "updated 0 0 0 0\n", ""), "without --delete")
+    same(updated(tree, "g", "/", "--delete-all"), (0, "updated 0 0 0 0\nremoved 1 1 0\n", ""), "where that is asked")
+    same(updated(tree, "g", "/", "--delete"), (0, "updated 0 0 0 0\nremoved 0 0 0\n", ""), "where there is nothing")
+
+
+def a_dry_run_changes_nothing(tree):
+    modelled(tree)
+    for it in ("d/a", "d/b", "e/f/g", "kind", "same"):
+        tree.write(f"f/{it}", it)
+    same(updated(tree, "f", "/")[0], 0, "an update")
+    tree.write("f/d/a", "longer than it was")
+    for it in ("e", "kind"):
+        tree.run("-r", f"f/{it}", script="/bin/rm")
+    tree.write("f/kind/new", "1")
+    os.symlink("d", f"{tree.top}/f/link")
+    os.utime(f"{tree.top}/f/same", (5, 5))
+    asked(tree)
+    told = "remove /kind\nmkdir /kind\nsymlink /link\nwrite /d/a\nwrite /kind/new\n"
+    same(updated(tree, "f", "/", "--dry-run")[:2], (13, "error exists /kind\n"), "without --delete")
+    status, out, errors = updated(tree, "f", "/", "--dry-run", "--delete")
+    same((status, sorted(out.splitlines()), errors), (0, sorted((told + "remove /e\nwould update 1 2 1 19\nwould remove 2 2 0\n").splitlines()), ""), "told")
+    same([it for it in asked(tree) if it and it.split()[0] not in ("ls", "stat", "read", "readlink")], [], "lines that change")
+    same(updated(tree, "f", "/", "--delete"), (0, "updated 1 2 1 19\nremoved 2 2 0\n", ""), "what it does")
+    os.remove(f"{tree.top}/f/d/b")
+    wants(tree, "hooks", rm__d_b=f"ls {tree.top}/f >{tree.top}/never")
+    same(updated(tree, "f", "/", "--dry-run", "--delete")[1], "remove /d/b\nwould update 0 0 0 0\nwould remove 0 1 0\n", "one file")
+    require(not os.path.exists(f"{tree.top}/never"), "it was asked")
+
+
+def what_cannot_be_read_is_left_out_where_that_is_asked(tree):
+    modelled(tree)
+    for it in ("f/a", "f/b", "f/d/e"):
+        tree.write(it, "1")
+    as_other = ("setpriv", "--reuid=1234", "--regid=1234", "--clear-groups") if os.getuid() == 0 else ()
+    same(updated(tree, "f", "/")[0], 0, "an update")
+    for it in ("f/b", "f/d"):
+        tree.write(f"{it}2" if it == "f/b" else "f/new/x", "1")
+        os.chmod(f"{tree.top}/{it}", 0)
+    tree.run("-c", f"chown -R 1234 {tree.top} && chmod 755 {os.path.dirname(tree.top)}" if as_other else "true", script="/bin/sh")
+
+    def update(*words):
+        return tree.run(*as_other, "./cryfs", "b", "s", "update", "f", "/", *words, given=b"pw\n", script="/usr/bin/env")
+
+    status, out, errors = update()
+    same((status, out), (12, ""), errors)
+    has(errors, "cryfs: f/b can't be read (Permission denied): --leave-out goes on without it\n")
+    status, out, errors = update("--leave-out", "--delete")
+    same((status, out), (0, "updated 1 2 0 2\nremoved 0 0 0\n"), errors)
+    has(errors, "cryfs: f/b can't be read (Permission denied): left out\n", "cryfs: f/d can't be read (Permission denied): left out\n")
+    same(tree.run("-R", "u+rwX", "f", script="/bin/chmod")[0], 0, "the rights are back")
+    same(line(tree, "ls", "/d"), "list 1\nf e\n", "what couldn't be read stays")
 
 
 def deep_folders_are_reached(tree):
@@ -159,4 +282,6 @@ def deep_folders_are_reached(tree):
 
 
 CASES = [a_long_line_comes_whole_through_stops_and_signals, a_folder_that_is_exchanged_is_not_followed, what_goes_or_is_exchanged_is_passed_over,
-         an_alarm_at_a_link_is_told, names_are_told_without_their_escapes, deep_folders_are_reached]
+         an_alarm_at_a_link_is_told, names_are_told_without_their_escapes, a_row_of_another_kind_is_there_until_the_new_one_is,
+         an_exchange_is_whole_or_undone, rows_of_that_name_which_are_no_updates_stay, an_empty_folder_deletes_nothing_unasked,
+         a_dry_run_changes_nothing, what_cannot_be_read_is_left_out_where_that_is_asked, deep_folders_are_reached]

@@ -90,7 +90,7 @@ def what_cannot_be_updated_is_told(tree):
     same(updated(tree, ".", "/")[:2], (12, ""), "what holds both")
     with socket.socket(socket.AF_UNIX) as it:
         it.bind(f"{tree.top}/f/socket")
-    same(updated(tree, "f", "/"), (12, "", "cryfs: f/socket: no file, folder or link\n" + fault), "a socket")
+    same(updated(tree, "f", "/"), (12, "", "cryfs: f/socket is no file, folder or link: --leave-out goes on without it\n" + fault), "a socket")
     left = "cryfs: f/socket is no file, folder or link: left out\n"
     same(updated(tree, "f", "/", "--leave-out"), (0, "updated 0 1 0 1\n", left), "which is left out")
     os.remove(f"{tree.top}/f/socket")

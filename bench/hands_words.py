@@ -29,7 +29,7 @@ def words_are_looked_at_first(tree):
     wrong = ("b", "b s", "b s lss", "b s ls\\ /", "b s info more", "b s check /", "b s shell x", "b s passwd x", "b s migrate x", "b s generate",
              "b s ls", "b s ls / x", "b s read", "b s mv /a", "b s sync x", "b s rm '/a f'", "b s rm ''", "b s write /a 0 61 62",
              "b s update", "b s update f", "b s update f x",
-             "b s update --delete f /", "b s update f / --all", "b s import f / --delete", "b s rm -r", "b s rm -r /", "b s rm -r f",
+             "b s update --delete f /", "b s update f / --all", "b s update f / --dry-run --dry-run", "b s update --delete-all f /", "b s import f / --dry-run", "b s import f / --delete", "b s rm -r", "b s rm -r /", "b s rm -r f",
              "b s rm -r /a /b", "b s rm -r /a/", "b s generate x", "b s generate 12345678", "b s generate 1 2", "b s trial x", "b s trial generate", "b s create --size 1", "b s create 128",
              "b s import", "b s import f", "b s import f x", "b s import '' /", "b s export f / more", "b s export / f",
              "b s import f / --quiet --quiet", "b s import f / --quick", "b s import f --quiet /", "b s export f / --leave-out",
@@ -206,7 +206,7 @@ def using_has_the_table_of_statuses(tree):
     page = open(f"{TOP}/docs/USING.md", encoding="utf-8").read()
     rows = [f"| {number} | {f'`{text}` ' if text else ''}| {cause} | {remedy} |" for number, text, cause, remedy in tree.status_rows()]
     same([line for line in page.splitlines() if re.match(r"\| \d+ \| (`|\|)", line)], rows, "the rows of the page")
-    require(page.count("\n") <= 226, "more than 226 lines")
+    require(page.count("\n") <= 250, "more than 250 lines")
     help_text = " ".join(tree.run("--help")[1].split())
     for _, text, cause, remedy in tree.status_rows():
         has(help_text, text, f"{cause}: {remedy}")

@@ -2,9 +2,10 @@
 """Stops `./cryfs update` at random times on real folders, and looks at what is there afterwards.
 
 Over and over on one file system: a folder gets other rows, and an update with --delete is killed, with the program, at any
-time within what a whole one takes. Then each row is that of before or that of the folder, and what both have is there. A
-whole update follows, after which the tree is the folder's. Every run prints its seed; the folders of a run that failed are
-kept.
+time within what a whole one takes. Then each row is that of before or that of the folder, and each path that both have is
+there. One alone may be missing, where its row changes its kind: then the old row is whole in the update's own directory, and
+so is the new one, where that is no directory. A whole update follows, after which the tree is the folder's. Every run prints
+its seed; the folders of a run that failed are kept.
 """
 import argparse
 import os
@@ -35,7 +36,7 @@ class Updates:
 
     def __init__(self, top, chance, block_size):
         self.top, self.chance, self.block_size, self.usual, self.rows = top, chance, block_size, None, {}
-        self.counts = {"kills": 0, "in part": 0, "whole": 0, "not at all": 0}
+        self.counts = {"kills": 0, "in part": 0, "whole": 0, "not at all": 0, "between two rows": 0}
         self.call("create", "--scrypt-n", "16", "--blocksize", str(block_size))
 
     def call(self, *words, stop_after=None):
@@ -70,12 +71,20 @@ class Updates:
         """Counts how far a killed update came, where nothing is lost."""
         left = {path: row for path, row in found.items() if path.split("/")[0] != BESIDE}
         odd = [it for it, row in left.items() if not any(it in rows and rows[it] == row for rows in (self.rows, after))]
-        gone = [it for it, row in self.rows.items() if it in after and after[it] == row and it not in left]
-        if odd or gone or status == 0 and found != after:
-            raise Lost(f"after status {status}: neither old nor new {odd}, gone {gone}")
+        gone = [it for it in self.rows if it in after and it not in left]
+        kept = [it for it in gone if self.is_beside(it, found, after)]
+        if odd or len(gone) > 1 or gone != kept or status == 0 and found != after:
+            raise Lost(f"after status {status}: neither old nor new {odd}, gone {gone}, of these beside {kept}")
         if status:
             self.counts["kills"] += 1
+            self.counts["between two rows"] += len(kept)
             self.counts["whole" if left == after else "not at all" if left == self.rows else "in part"] += 1
+
+    def is_beside(self, path, found, after):
+        """Whether a row that changes its kind was moved aside, and the new one waits."""
+        old, new = (f"{BESIDE}/{it}" for it in ("old", "new"))
+        kinds = type(self.rows[path]) is not type(after[path])
+        return kinds and old in found and found[old] == self.rows[path] and (after[path] is None or found.get(new, None) == after[path])
 
     def update(self):
         shutil.rmtree(f"{self.top}/given", ignore_errors=True)

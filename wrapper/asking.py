@@ -25,7 +25,7 @@ class Asker(Session):
     def __init__(self, program, call, first):
         # (in pieces, which are joined once: an answer has a megabyte and more)
         self.came, self.met, self.fault = [], None, None
-        self.shown_at, self.is_shown = time.monotonic(), False
+        self.shown_at, self.is_shown, self.is_held = time.monotonic(), False, False
         super().__init__(program, call, first)
 
     def show(self, came):
@@ -33,14 +33,22 @@ class Asker(Session):
 
     def ask(self, line):
         """The lines that answer this one."""
-        if self.ended or self.signals:
+        if self.ended or self.is_to_end():
             raise Stopped
         self.came = []
         self.answer(line + b"\n")
         answer = b"".join(self.came).split(b"\n")[:-1]
-        if not answer or self.signals:
+        if not answer or self.is_to_end():
             raise Stopped
         return answer
+
+    def is_to_end(self):
+        """Whether a signal came, and nothing is under way that has to be whole."""
+        return self.signals and not self.is_held
+
+    def change(self, line):
+        """The lines that answer one that changes something."""
+        return self.ask(line)
 
     def stop(self):
         raise Stopped
@@ -52,7 +60,7 @@ class Asker(Session):
 
     def have(self, line, path):
         """Asks a line that has to be answered `ok`."""
-        answer = self.ask(line)
+        answer = self.change(line)
         if answer != OK:
             self.fail(answer[0], path)
 

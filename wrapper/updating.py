@@ -1,4 +1,5 @@
-"""Brings a directory to what a folder of this machine has, by the lines of one session: what is new or changed is written.
+"""Brings a directory to what a folder of this machine has, by the lines of one session: what is new or changed is written, and
+at last what the folder doesn't have is removed, where that is asked.
 
 A file counts as unchanged where its length and its time of modification are those of the file here. Where the time alone
 differs its bytes are compared. A new or changed file is written in a directory of the update's own, gets its time, and is
@@ -8,15 +9,19 @@ The folder may change meanwhile. What has gone, or was exchanged for something e
 import os
 
 import host_folder
-from asking import joined, written
+from asking import OK, joined, written
 from host_folder import Exchanged, kind_of, place_of
 from removing import KINDS, Removal
-from telling import named, say
+from telling import USAGE, named, say
 
 # The bytes that a line carries, as hexadecimal digits: a line has 1,048,576 bytes at most.
 PIECE = 500000
-# The directory, below the one that is updated, in which a file is written before it takes its place.
-BESIDE = b".sergunad-update"
+# The directory, below the one that is updated, in which a file is written before it takes its place, and what it has: the file
+# or link, and what it takes the place of, where that is of another kind.
+BESIDE, DRAFT, ASIDE = b".sergunad-update", b"new", b"old"
+# How a rehearsal tells what would be made.
+MAKES = {b"d": b"mkdir ", b"f": b"write ", b"l": b"symlink "}
+GOES_ON = "--leave-out goes on without it"
 HOST_FAULT = ("host folder fault", 12)
 NANO = 10**9
 
@@ -37,8 +42,8 @@ class Update(Removal):
     refused, stopped = ("copy refused", 13), ("copy stopped", 14)
 
     def __init__(self, program, call, first):
-        self.made, self.bytes = dict.fromkeys(KINDS, 0), 0
-        self.beside = self.draft = None
+        self.made, self.bytes, self.gone = dict.fromkeys(KINDS, 0), 0, []
+        self.beside, self.has_beside = None, False
         self.barred = {place_of(it) for it in map(os.stat, (call.blocks, call.state))}
         super().__init__(program, call, first)
 
@@ -54,6 +59,14 @@ class Update(Removal):
         self.hide()
         say(f"{named(path)} {why}: passed over")
 
+    def leave_out(self, path, why):
+        """Names what can't be copied where that is to be left out; else it ends with it."""
+        self.hide()
+        say(f"{named(path)} {why}: {'left out' if self.call.leaves_out() else GOES_ON}")
+        if not self.call.leaves_out():
+            self.fault = HOST_FAULT
+            self.stop()
+
     def entries(self, folder):
         """What is in a folder here by names as they are printed, each with its name and its numbers; none of what has gone since."""
         found = {}
@@ -67,55 +80,49 @@ class Update(Removal):
         return found
 
     def is_taken(self, path, name, numbers):
-        """Whether a row can be copied. What is no file, folder or link is left out where that is asked, and else a fault, as is a name that is no text."""
-        if not kind_of(numbers):
-            if not self.call.leaves_out():
-                self.host_fails(path, "no file, folder or link")
-            self.hide()
-            say(f"{named(path)} is no file, folder or link: left out")
-            return False
+        """Whether a row can be copied."""
         if place_of(numbers) in self.barred:
             self.host_fails(path, "BLOCKS or STATE, which isn't copied")
-        if not is_text(name):
-            self.host_fails(path, "its name is no text")
-        return True
+        why = "is no file, folder or link" if not kind_of(numbers) else "has a name that is no text" if not is_text(name) else None
+        if why:
+            self.leave_out(path, why)
+        return not why
 
-    def update_directory(self, folder, path):
-        """Brings one directory to what the folder has, and gives those below it: each its name here, its numbers, and its path."""
-        rows = dict(reversed(it) for it in self.left_in(path))
-        found = self.entries(folder)
-        for name in sorted(rows, reverse=True) if self.call.deletes() else ():
-            if name not in found:
-                self.remove_one(rows.pop(name), joined(path, name))
+    def rows_at(self, path):
+        """The kinds of the rows of a directory by their names."""
+        return dict(reversed(it) for it in self.left_in(path))
+
+    def update_directory(self, folder, path, rows, found):
+        """Brings one directory, which has these rows, to what was found in the folder, and gives those below it: each its name here, its numbers,
+        its path, and whether it is new. What the folder doesn't have is left for the end."""
+        if self.call.deletes():
+            self.gone += [(rows[it], joined(path, it)) for it in sorted(rows, reverse=True) if it not in found]
         below = []
         for printed in sorted(it for it in found if found[it][1]):
-            name, numbers = found[printed]
-            at = joined(path, printed)
-            self.read_here(folder.path_of(name), lambda: self.update_row(folder, name, kind_of(numbers), at, rows.get(printed)))
-            if kind_of(numbers) == b"d":
-                below.append((name, numbers, at))
+            (name, numbers), at, there = found[printed], joined(path, printed), rows.get(printed)
+            kind = kind_of(numbers)
+            if there not in (None, kind) and not self.call.deletes():
+                self.fail(b"error exists", at)
+            if kind == b"d":
+                self.update_folder(at, there)
+                below.append((name, numbers, at, there != b"d"))
+            else:
+                update = self.update_file if kind == b"f" else self.update_link
+                self.read_here(folder.path_of(name), lambda: update(folder, name, at, there))
         return below
 
     def read_here(self, path, work):
-        """What the work gives, which reads what is at this path here. Nothing where that was exchanged; it stops where the system refuses."""
+        """What the work gives, which reads what is at this path here. Nothing where that was exchanged or is left out; it stops where the system
+        refuses."""
         try:
             return work()
         except Exchanged as why:
             self.pass_over(path, why)
+        except PermissionError as why:
+            self.leave_out(path, f"can't be read ({why.strerror})")
         except OSError as why:
             self.host_fails(path, why.strerror)
-
-    def update_row(self, folder, name, kind, at, there):
-        """Brings one row to what the folder has; of a directory that it is there."""
-        if there not in (None, kind):
-            if not self.call.deletes():
-                self.fail(b"error exists", at)
-            self.remove_one(there, at)
-            there = None
-        if kind == b"d":
-            self.update_folder(at, there)
-        else:
-            (self.update_file if kind == b"f" else self.update_link)(folder, name, at, there)
+        return None
 
     def remove_one(self, kind, path):
         """Removes a row, a directory with all below it."""
@@ -125,33 +132,64 @@ class Update(Removal):
             self.remove_row(kind, path)
 
     def update_folder(self, path, there):
-        if there is None:
-            self.have(b"mkdir " + path, path)
-            self.count(b"d")
+        if there != b"d":
+            self.take_place(b"mkdir " + path, b"d", there, path)
 
     def count(self, kind):
         self.made[kind] += 1
         self.tell(f"{self.made[b'f']} files, {self.bytes >> 20} MiB written")
 
+    def make_beside(self, path):
+        if not self.has_beside:
+            self.have(b"mkdir " + self.beside, path)
+            self.has_beside = True
+
     def begin_draft(self, line, path):
         """Makes what is to take its place at the path, by this line."""
-        if not self.draft:
-            self.have(b"mkdir " + self.beside, path)
-            self.draft = joined(self.beside, b"new")
+        self.make_beside(path)
         self.have(line + self.draft, path)
 
-    def end_draft(self, kind, path):
+    def end_draft(self, kind, there, path):
         """Has it take its place."""
-        self.have(b"mv " + self.draft + b" " + path, path)
+        self.take_place(b"mv " + self.draft + b" " + path, kind, there, path)
+
+    def take_place(self, line, kind, there, path):
+        """Asks the line by which the path gets its new row. A row of another kind goes, a directory once it is empty: then each path can be named
+        where it is moved."""
+        self.note(MAKES[kind], path)
+        if there in (None, kind):
+            self.have(line, path)
+        else:
+            self.note(b"remove ", path)
+            for below, name in reversed(self.left_in(path) if there == b"d" else []):
+                self.remove_one(below, joined(path, name))
+            self.exchange(line, path)
+            self.remove_row(there, joined(self.beside, ASIDE))
         self.count(kind)
+
+    def exchange(self, line, path):
+        """Moves what is at the path aside, and asks the line that puts another row there. No first signal stops it between the two; where the second
+        one is refused, the first is undone."""
+        self.make_beside(path)
+        aside = joined(self.beside, ASIDE)
+        self.is_held = True
+        self.have(b"mv " + path + b" " + aside, path)
+        answer = self.change(line)
+        if answer != OK:
+            self.change(b"mv " + aside + b" " + path)
+            self.fail(answer[0], path)
+        self.is_held = False
+
+    def note(self, word, path):
+        """Takes note of what is done, where that is told."""
 
     def update_link(self, folder, name, path, there):
         target = folder.target(name)
         if not is_text(target):
-            self.host_fails(folder.path_of(name), "its target is no text")
-        if not there or self.link_at(path) != escaped(target):
+            self.leave_out(folder.path_of(name), "has a target that is no text")
+        elif there != b"l" or self.link_at(path) != escaped(target):
             self.begin_draft(b"symlink " + escaped(target) + b" ", path)
-            self.end_draft(b"l", path)
+            self.end_draft(b"l", there, path)
 
     def link_at(self, path):
         """The target of the link there, as it is printed."""
@@ -163,14 +201,14 @@ class Update(Removal):
     def update_file(self, folder, name, path, there):
         with folder.open_file(name) as file:
             numbers = os.fstat(file.fileno())
-            if there and self.is_unchanged(file, numbers, path):
+            if there == b"f" and self.is_unchanged(file, numbers, path):
                 return
             file.seek(0)
             self.begin_draft(b"mkfile ", path)
             size = self.write_file(file, path)
         self.set_time(self.draft, path, numbers)
         self.bytes += size
-        self.end_draft(b"f", path)
+        self.end_draft(b"f", there, path)
 
     def write_file(self, file, path):
         """Writes the bytes of the file here, and gives how many they were."""
@@ -216,35 +254,77 @@ class Update(Removal):
     def update(self, folder, path):
         """Brings the directory at the path to what the folder has."""
         self.beside = joined(path, BESIDE)
-        if os.path.lexists(folder.path_of(BESIDE)):
+        self.draft = joined(self.beside, DRAFT)
+        rows, found = self.rows_at(path), self.read_here(folder.path, lambda: self.entries(folder))
+        if found is None:
+            self.host_fails(folder.path, "can't be read")
+        if BESIDE in found:
             self.host_fails(folder.path_of(BESIDE), "an update needs this name itself")
-        for kind, name in self.left_in(path):
+        left = rows.pop(BESIDE, None)
+        if left and not self.is_own(left):
+            self.fail(b"error exists", self.beside)
+        if rows and not found and self.call.deletes() and not self.call.deletes_all():
+            self.refuse(f"FOLDER has nothing to copy, and all {len(rows)} rows of PATH would go: is its disk there? Else give --delete-all. Nothing was done")
+        if left:
             # (an update that was stopped left it)
-            if name == BESIDE:
-                self.remove_one(kind, self.beside)
-        self.removed = dict.fromkeys(KINDS, 0)
-        self.update_below(folder, path)
-        if self.draft:
+            self.remove_one(left, self.beside)
+            self.removed = dict.fromkeys(KINDS, 0)
+        self.update_below(folder, path, rows, found)
+        for kind, gone in self.gone:
+            self.note(b"remove ", gone)
+            self.remove_one(kind, gone)
+        if self.has_beside:
             self.have(b"rmdir " + self.beside, path)
 
-    def update_below(self, folder, path):
+    def is_own(self, kind):
+        """Whether the row that has the update's name is what an update leaves: a directory with nothing but its draft and what was moved aside."""
+        return kind == b"d" and all((it == DRAFT and of != b"d") or it == ASIDE for of, it in self.left_in(self.beside))
+
+    def refuse(self, why):
+        """Ends it as words that aren't taken."""
+        self.fault = why, USAGE
+        self.stop()
+
+    def update_below(self, folder, path, rows, found):
         """Brings a directory and all below it to what the folder has. The folders from this one down to the one at work are open."""
-        open_ones = [(folder, iter(self.update_directory(folder, path)))]
+        open_ones = [(folder, iter(self.update_directory(folder, path, rows, found)))]
         while open_ones:
             above, left = open_ones[-1]
-            name, numbers, at = next(left, (None, None, None))
+            name, numbers, at, is_new = next(left, (None, None, None, None))
             if name is None:
                 open_ones.pop()[0].close()
                 continue
             here = self.read_here(above.path_of(name), lambda: above.folder(name, numbers))
-            if here:
-                below = self.read_here(here.path, lambda: self.update_directory(here, at))
-                open_ones.append((here, iter(below or ())))
+            found = here and self.read_here(here.path, lambda: self.entries(here))
+            if found is not None:
+                rows = {} if is_new else self.rows_at(at)
+                open_ones.append((here, iter(self.update_directory(here, at, rows, found))))
 
     def updated_lines(self):
         """What it made, and below it what it removed, where that was asked."""
         line = b"updated %d %d %d %d" % (*(self.made[it] for it in KINDS), self.bytes)
         return line + b"\n" + self.removed_line() if self.call.deletes() else line
+
+
+class Rehearsal(Update):
+    """An update that asks nothing that changes, and tells what it would do."""
+
+    def __init__(self, program, call, first):
+        self.notes = []
+        super().__init__(program, call, first)
+
+    def change(self, line):
+        return OK
+
+    def note(self, word, path):
+        self.notes.append(word + path)
+
+    def write_file(self, file, path):
+        return os.fstat(file.fileno()).st_size
+
+    def updated_lines(self):
+        would = (b"would update " + super().updated_lines()[8:]).replace(b"\nremoved ", b"\nwould remove ")
+        return b"\n".join([*self.notes, would])
 
 
 def is_text(name):
@@ -258,13 +338,17 @@ def is_text(name):
 
 def run(program, call, first):
     """Brings the directory that the call names to what its folder has."""
-    update = Update(program, call, first)
+    update = (Rehearsal if call.rehearses() else Update)(program, call, first)
     host_folder.let_open_many()
     path = os.fsencode(call.rest[1])
 
     def work():
-        folder = update.read_here(path, lambda: host_folder.open_folder(path))
-        if folder.lies_in(update.barred):
+        try:
+            folder = host_folder.open_folder(path)
+            is_barred = folder.lies_in(update.barred)
+        except OSError as why:
+            update.host_fails(path, why.strerror)
+        if is_barred:
             update.host_fails(path, "it is in BLOCKS or STATE")
         update.update(folder, written(call.rest[2]))
         return (update.updated_lines(),)

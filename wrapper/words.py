@@ -11,7 +11,7 @@ FILES = ("put", "get")
 COMMANDS = ("create", "info", "passwd", "migrate", "check", "shell", *COPIES, *FILES, "generate", "trial", *LINES)
 CREATE_OPTIONS = ("--blocksize", "--scrypt-n", "--scrypt-r", "--scrypt-p")
 # Words that may stand behind those of a command.
-LATE_OPTIONS = {"import": ("--quiet", "--leave-out"), "export": ("--quiet",), "update": ("--quiet", "--leave-out", "--delete"),
+LATE_OPTIONS = {"import": ("--quiet", "--leave-out"), "export": ("--quiet",), "update": ("--quiet", "--leave-out", "--delete", "--delete-all", "--dry-run"),
                 "check": ("--quiet",)}
 # The word behind `rm` by which all below a path goes with it.
 WHOLE = "-r"
@@ -83,7 +83,15 @@ class Call:
 
     def deletes(self):
         """Whether an update removes what the folder doesn't have."""
-        return "--delete" in self.rest[3:]
+        return "--delete" in self.rest[3:] or self.deletes_all()
+
+    def deletes_all(self):
+        """Whether it does so also where the folder has nothing at all."""
+        return "--delete-all" in self.rest[3:]
+
+    def rehearses(self):
+        """Whether an update tells what it would do, and does nothing."""
+        return "--dry-run" in self.rest[3:]
 
     def words(self):
         """The words of the program."""
