@@ -22,12 +22,14 @@ import hands_golden
 import hands_processor
 import hands_real
 import hands_removing
+import hands_state_copy
 import hands_terminal
 import hands_updating
 import hands_words
 from hands_tree import BUILT, Skipped, Tree, programs_here
 
-CASES = hands_build.CASES + hands_processor.CASES + hands_words.CASES + hands_terminal.CASES + hands_files.CASES + hands_asking.CASES
+CASES = hands_build.CASES + hands_processor.CASES + hands_words.CASES + hands_terminal.CASES + hands_files.CASES + hands_asking.CASES \
+    + hands_state_copy.CASES
 REAL = hands_real.CASES + hands_golden.CASES + hands_copies.CASES + hands_files.REAL + hands_checks.CASES + hands_removing.CASES + hands_updating.CASES
 
 

@@ -60,8 +60,9 @@ def hands_on_what_a_pipe_gives(tree):
     for words in (["shell"], ["trial"], ["info"], ["check"], ["ls", "/"]):
         started = tree.start("b", f"{tree.top}/s", *words, cwd="/")
         out, errors = started.communicate(b"p\xff w\n\nrest", timeout=LIMIT)
-        wanted = f"process {started.pid} in /\nwords b {tree.top}/s {' '.join(words)}\n".encode()
-        same(out, wanted + b"line p\xff w\nline \npiece rest\n", "what the program got")
+        process, _, rest = out.partition(b" in /\n")
+        require(process not in (b"", f"process {started.pid}".encode()), f"it runs below the wrapper: {process}")
+        same(rest, f"words b {tree.top}/s {' '.join(words)}\n".encode() + b"line p\xff w\nline \npiece rest\n", "what the program got")
         same(errors, b"", "errors")
 
 

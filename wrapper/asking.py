@@ -5,7 +5,7 @@ import time
 
 import telling
 from lines import OUTPUT_FAULT, Session
-from running import end, shown, wait
+from running import end, read_whole, shown, wait
 
 # How an answer begins that refuses a line.
 ERROR = b"error "
@@ -105,7 +105,7 @@ class Asker(Session):
             status = self.told(answer + b" " + path, status, *(self.refused if answer.startswith(ERROR) else self.stopped))
         elif status == 0 and done is not None:
             status = self.told(*done)
-        end(status, self.errors, self.call)
+        end(status, read_whole(self.errors), self.call)
 
     def told(self, line, status=0, text=None, own=0):
         """Prints the line in which it ended, where there is one; the status, which is its own where the program's tells nothing."""

@@ -108,7 +108,7 @@ class Session:
         if self.lost and status in (0, -signal.SIGPIPE):
             status = OUTPUT_FAULT
             os.write(self.errors, b"cryfs: output fault\n")
-        running.end(status, self.errors, self.call)
+        running.end(status, running.read_whole(self.errors), self.call)
 
 
 def lines_behind(start):
@@ -215,7 +215,7 @@ def run_behind(program, call, first):
     lives, held = running.pipe()
     os.set_inheritable(held, True)
     errors = running.in_memory()
-    process = running.start(program, call.words(), {0: given, 2: errors} if os.isatty(2) else {0: given}, ends_with_this=True)
+    process = running.start(program, call.words(), {0: given, 2: errors}, ends_with_this=True)
     os.close(given)
     os.close(held)
     ended = running.hold_open(process, lives)
@@ -230,7 +230,7 @@ def run_behind(program, call, first):
     os.close(into)
     running.let_end(ended)
     status = running.wait(process)
-    running.end(status if is_whole or not call.takes_bytes() else INPUT_FAULT, errors, call)
+    running.end(status if is_whole or not call.takes_bytes() else INPUT_FAULT, running.read_whole(errors), call)
 
 
 def hand_on(first, into, lives):

@@ -1,4 +1,4 @@
-"""The program as it is run: in this process's place, or below it with its status explained."""
+"""The program as it is run below this process, and what is said of its status."""
 import os
 import select
 import signal
@@ -6,6 +6,7 @@ import sys
 import tty
 
 import looking
+import state_copy
 import telling
 from passwords import die_of
 from telling import Refused, say
@@ -120,7 +121,7 @@ def wait(process):
 def start_below(program, call, given, errors):
     """The process of the program, with signals handed on to it."""
     streams = {2: errors} if given is None else {0: in_memory(given), 2: errors}
-    process = start(program, call.words(), streams)
+    process = start(program, call.words(), streams, ends_with_this=True)
     # An interrupt reaches both by the terminal; what is sent to this process alone is handed on.
     for it in (signal.SIGINT, signal.SIGQUIT):
         signal.signal(it, signal.SIG_IGN)
@@ -129,19 +130,14 @@ def start_below(program, call, given, errors):
     return process
 
 
-def run_explained(program, call, given):
-    """Runs the program below this process, where a person sees its errors, and says what its status means."""
-    errors = in_memory()
-    end(wait(start_below(program, call, given, errors)), errors, call)
-
-
-def run_watched(program, call, given):
-    """The same, where a person sees what it says as it comes: how far it is."""
-    side, errors = terminal()
+def run_below(program, call, given):
+    """Runs the program, passes on what it says as it comes, and ends as it did. Where a person looks on it says how far it is."""
+    is_watched = os.isatty(2) and call.tells_how_far()
+    side, errors = terminal() if is_watched else pipe()
     process = start_below(program, call, given, errors)
     os.close(errors)
-    last = handed_on(side)
-    explain(wait(process), last, call)
+    last = handed_on(side, not is_watched)
+    end(wait(process), last, call, is_shown=is_watched)
 
 
 def terminal():
@@ -151,20 +147,28 @@ def terminal():
     return side, errors
 
 
-def handed_on(side):
-    """Passes on to standard error what comes out until the program has ended, and gives the last of it."""
-    last = b""
-    while True:
-        try:
-            piece = os.read(side, 65536)
-        except InterruptedError:
-            continue
-        except OSError:
-            return last
-        if not piece:
-            return last
-        last = (last + piece)[-4096:]
-        shown(piece)
+def handed_on(side, holds_last):
+    """Passes on to standard error what comes out until the program has ended, and gives the last of it; a last line may be held back."""
+    held = passed = b""
+    while piece := came_out(side):
+        held += piece
+        cut = start_of_last(held) if holds_last else len(held)
+        shown(held[:cut])
+        held, passed = held[cut:], (passed + held[:cut])[-4096:]
+    return held if holds_last else passed
+
+
+def came_out(side):
+    """What came out next; nothing at the end."""
+    try:
+        return os.read(side, 65536)
+    except OSError:
+        return b""
+
+
+def start_of_last(lines):
+    """Where the last line begins."""
+    return lines.rstrip(b"\n").rfind(b"\n") + 1
 
 
 def shown(said):
@@ -175,12 +179,38 @@ def shown(said):
         pass
 
 
-def end(status, errors, call):
-    """Prints what the program said, what its status means, and ends as it did."""
-    os.lseek(errors, 0, os.SEEK_SET)
-    said = os.read(errors, 65536)
-    shown(said)
-    explain(status, said, call)
+def read_whole(errors):
+    """What the program said, where that is a file in memory."""
+    size = os.fstat(errors).st_size
+    return os.pread(errors, size, 0)
+
+
+def end(status, said, call, is_shown=False):
+    """Copies the record where that is asked, says what the program said last and what its status means, and ends as it did."""
+    for it in (signal.SIGINT, signal.SIGTERM, signal.SIGHUP, signal.SIGQUIT):
+        signal.signal(it, signal.SIG_IGN)
+    cut = start_of_last(said) if status else len(said)
+    if not is_shown:
+        shown(said[:cut])
+    failure, last = state_copy.bring(call), said[cut:]
+    if failure and not status:
+        status, last, is_shown = state_copy.NOT_COPIED, f"cryfs: {state_copy.TEXT}\n".encode(), False
+    told = [failure] if failure else []
+    if os.isatty(2):
+        shown(b"" if is_shown else last)
+        told += failure_lines(status, text_of(last), call) if status else success_lines(call)
+    for line in told:
+        say(line)
+    if not os.isatty(2):
+        shown(last)
+    if status < 0:
+        die_of(-status)
+    sys.exit(status if status >= 0 else 128 - status)
+
+
+def text_of(last):
+    """The text of a status in the line that tells it."""
+    return os.fsdecode(last).strip().rpartition("cryfs: ")[2]
 
 
 def failure_lines(status, text, call):
@@ -194,14 +224,3 @@ def success_lines(call):
     if call.command == "create":
         return [telling.STATE_MATTERS]
     return looking.told_formats(call.state) if call.command == "info" else []
-
-
-def explain(status, said, call):
-    """Says what the status means, behind what the program said last, and ends as it did."""
-    if os.isatty(2):
-        text = os.fsdecode(said).strip().rpartition("cryfs: ")[2]
-        for line in failure_lines(status, text, call) if status else success_lines(call):
-            say(line)
-    if status < 0:
-        die_of(-status)
-    sys.exit(status if status >= 0 else 128 - status)

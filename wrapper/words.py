@@ -16,32 +16,44 @@ LATE_OPTIONS = {"import": ("--quiet", "--leave-out"), "export": ("--quiet",), "u
 # The word behind `rm` by which all below a path goes with it.
 WHOLE = "-r"
 PASSWORD_OPTIONS = ("--password-file", "--password-command")
+STATE_COPY = "--state-copy"
 
 
 class Call:
-    """A call: the two folders, the command and its words, and where the password comes from."""
+    """A call: the two folders, the command and its words, where the password comes from, and where STATE's record is copied to."""
 
     def __init__(self, words, environment):
-        self.source = self.was_marked = None
+        self.source = self.was_marked = self.state_copy = None
         left = self.take_options(list(words))
         self.blocks, self.state, self.rest = split_folders(left, environment)
         self.command = self.rest[0]
         check_command(self.rest)
-        if self.source and not self.takes_password():
-            raise Refused(f"{self.command} takes no password", USAGE)
+        for it, what in ((self.source, "takes no password"), (self.state_copy, "changes no STATE")):
+            if it and not self.takes_password():
+                raise Refused(f"{self.command} {what}", USAGE)
+        copy = self.state_copy or environment.get("CRYFS_STATE_COPY")
+        self.state_copy = (copy.rstrip("/") or "/") if copy and self.takes_password() else None
 
     def take_options(self, words):
-        """The words after those that say where the password comes from."""
+        """The words after those that say where the password comes from, and where the record is copied to."""
         while words and words[0].startswith("--"):
             name, mark, value = words.pop(0).partition("=")
-            if name not in PASSWORD_OPTIONS:
+            if name not in (*PASSWORD_OPTIONS, STATE_COPY):
                 raise Refused(f"no option {name}: see cryfs --help", USAGE)
             if not mark and not words:
                 raise Refused(f"{name} needs a word after it", USAGE)
-            if self.source:
-                raise Refused("the password comes from one place: one of --password-file and --password-command, once", USAGE)
-            self.source = name, value if mark else words.pop(0)
+            self.take_option(name, value if mark else words.pop(0))
         return words
+
+    def take_option(self, name, value):
+        if name == STATE_COPY:
+            if self.state_copy or not value:
+                raise Refused(f"{name} stands once, with a folder after it", USAGE)
+            self.state_copy = value
+        elif self.source:
+            raise Refused("the password comes from one place: one of --password-file and --password-command, once", USAGE)
+        else:
+            self.source = name, value
 
     def takes_password(self):
         return self.command != "trial"
