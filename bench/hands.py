@@ -15,6 +15,7 @@ import tempfile
 
 import hands_asking
 import hands_build
+import hands_causes
 import hands_checks
 import hands_copies
 import hands_files
@@ -29,7 +30,7 @@ import hands_words
 from hands_tree import BUILT, Skipped, Tree, programs_here
 
 CASES = hands_build.CASES + hands_processor.CASES + hands_words.CASES + hands_terminal.CASES + hands_files.CASES + hands_asking.CASES \
-    + hands_state_copy.CASES
+    + hands_state_copy.CASES + hands_causes.CASES
 REAL = hands_real.CASES + hands_golden.CASES + hands_copies.CASES + hands_files.REAL + hands_checks.CASES + hands_removing.CASES + hands_updating.CASES
 
 

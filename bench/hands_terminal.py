@@ -317,7 +317,7 @@ def a_status_is_explained(tree):
                 terminal.answer("New password again: ", "pw")
             status, seen = terminal.end()
             wanted = [f"{row[2]}: {row[3]}" for row in rows if row[:2] == (number, text) and
-                      not row[2].startswith(("`create`", "`check`", "`import`", "`put`", "`get`", "`migrate`", "`update`", "`rm`", "`passwd`" if words == "info" else "none"))]
+                      "ends in" not in row[2] and not row[2].startswith(("`export`", "`create`", "`check`", "`import`", "`put`", "`get`", "`migrate`", "`update`", "`rm`", "`passwd`" if words == "info" else "none"))]
             wanted = [f"cryfs: {'or ' if it else ''}{line}" for it, line in enumerate(wanted)]
             same((status, seen.strip().split("\r\n")), (int(number), [f"cryfs: {text}", *wanted]), "what is seen")
         same(tree.run("b", "s", "info", given=b"pw\n"), (int(number), "", f"cryfs: {text}\n"), "in a pipe")
@@ -382,7 +382,7 @@ def a_copy_is_seen_as_it_goes_on(tree):
     terminal.expect("\rcryfs: 1 files\x1b[K")
     tree.write("wait", "on\n")
     status, seen = terminal.end()
-    wanted = [f"{row[2]}: {row[3]}" for row in tree.status_rows() if row[0] == "13" and row[2].startswith("`import`, `export`")]
+    wanted = [f"{row[2]}: {row[3]}" for row in tree.status_rows() if row[0] == "13" and "`export`" in row[2]]
     wanted = ["cryfs: copy refused", *(f"cryfs: {'or ' if it else ''}{line}" for it, line in enumerate(wanted))]
     same((status, seen.strip().split("\r\n")), (13, wanted), "what is seen")
     status, _, errors = tree.run("-c", "echo on >wait & echo pw | ./cryfs b s export f /", script="/bin/sh")

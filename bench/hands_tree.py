@@ -133,11 +133,20 @@ class Tree:
                 os.killpg(it.pid, signal.SIGKILL)
                 it.wait()
 
-    def run(self, *words, given=b"", **how):
+    def run_whole(self, *words, given=b"", **how):
         """The status, the output and the errors of a run whose input is a pipe."""
         started = self.start(*words, **how)
         out, errors = started.communicate(given, timeout=LIMIT)
         return started.returncode, out.decode(errors="replace"), errors.decode(errors="replace")
+
+    def run(self, *words, **how):
+        """The same without the cause that stands before the last line, where there is one."""
+        status, out, errors = self.run_whole(*words, **how)
+        return status, out, "".join(it for it in errors.splitlines(keepends=True) if not self.is_cause(status, it))
+
+    def is_cause(self, status, line):
+        """Whether a line of errors tells a cause of this status."""
+        return any(row[0] == str(status) and row[1] and line.startswith(f"cryfs: {row[2]}: ") for row in self.status_rows())
 
     def build(self, *words, **how):
         return self.run(*words, script=f"{self.top}/build", **how)

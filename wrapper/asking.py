@@ -87,7 +87,8 @@ class Asker(Session):
         """Does the work, closes the session, which keeps what was done, prints what came of it, and ends with its status."""
         done = None
         try:
-            done = work()
+            # (it ends before any line where it doesn't open)
+            done = None if self.ended else work()
         except Stopped:
             pass
         self.hide()
@@ -102,6 +103,7 @@ class Asker(Session):
             status = self.told(b"", status, *self.fault)
         elif self.met:
             answer, path = self.met
+            self.call.said = os.fsdecode(answer)
             status = self.told(answer + b" " + path, status, *(self.refused if answer.startswith(ERROR) else self.stopped))
         elif status == 0 and done is not None:
             status = self.told(*done)

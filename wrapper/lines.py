@@ -14,6 +14,7 @@ PROMPT = "cryfs> "
 # The program's statuses where its input couldn't be read, and where an answer couldn't be written.
 INPUT_FAULT = 8
 OUTPUT_FAULT = 9
+VIOLATION = b"violation "
 # More bytes than a line has that tells how many rows follow.
 LIST_LINE = 32
 ENDING = (signal.SIGINT, signal.SIGTERM, signal.SIGHUP)
@@ -75,6 +76,8 @@ class Session:
                 start += came[:LIST_LINE]
                 more = lines_behind(start)
                 left += more or 0
+                if start.startswith(VIOLATION):
+                    self.call.said = os.fsdecode(start)
         return None
 
     def take(self):

@@ -91,25 +91,27 @@ def asked_lines(call):
         return lines
 
 
-def source_line(source):
-    """The line that the file or the command gives."""
-    option, value = source
+def source_line(call):
+    """The line that the file or the command of a call gives."""
+    option, value = call.source
     text = read_file(value) if option == "--password-file" else read_command(value)
     line, mark, _ = text.partition(b"\n")
     if not text:
         raise Refused(f"{option} gave nothing: an empty password on purpose is an empty line")
+    call.has_return = line.endswith(b"\r")
     return line + b"\n"
 
 
 def only_line(call):
     """The line by which it opens, from wherever it comes."""
     if call.source:
-        return source_line(call.source)
+        return source_line(call)
     if os.isatty(0):
         return asked_lines(call)
     given = lines_given(1, call.command)
     if given is None:
         raise Refused("the input can't be read, whose first line is the password")
+    call.has_return = given.rstrip(b"\n").endswith(b"\r")
     return given if given.endswith(b"\n") else given + b"\n"
 
 

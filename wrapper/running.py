@@ -15,6 +15,8 @@ from telling import Refused, say
 SIGNAL_AT_PARENTS_END = 1
 # The program's status after a violation.
 VIOLATION = 5
+# So many causes are told in a pipe.
+CAUSES_IN_PIPES = 2
 
 
 def kept_apart(file):
@@ -195,13 +197,12 @@ def end(status, said, call, is_shown=False):
     failure, last = state_copy.bring(call), said[cut:]
     if failure and not status:
         status, last, is_shown = state_copy.NOT_COPIED, f"cryfs: {state_copy.TEXT}\n".encode(), False
-    told = [failure] if failure else []
-    if os.isatty(2):
+    at_terminal = os.isatty(2)
+    if at_terminal:
         shown(b"" if is_shown else last)
-        told += failure_lines(status, text_of(last), call) if status else success_lines(call)
-    for line in told:
+    for line in ([failure] if failure else []) + told_lines(status, text_of(last), call, at_terminal):
         say(line)
-    if not os.isatty(2):
+    if not at_terminal:
         shown(last)
     if status < 0:
         die_of(-status)
@@ -213,11 +214,29 @@ def text_of(last):
     return os.fsdecode(last).strip().rpartition("cryfs: ")[2]
 
 
-def failure_lines(status, text, call):
-    is_used = looking.is_used(status, call)
-    seen = looking.told_room(status, call) if is_used is False else []
+def told_lines(status, text, call, at_terminal):
+    """What a status means: each likely cause where a person looks on, else the first ones in a line."""
+    if at_terminal:
+        return failure_lines(status, text, call) if status else success_lines(call)
+    if status == -signal.SIGKILL or (status > 0 and text):
+        causes = telling.meanings(status, text, call.command, known_of(status, call))[:CAUSES_IN_PIPES]
+        return ["; ".join(causes)] if causes else []
+    return []
+
+
+def known_of(status, call):
+    """What is known of the folders and words behind a run."""
+    facts = [telling.RETURN] if call.has_return else []
+    if call.command == "import" and os.path.isfile(call.rest[1]):
+        facts.append(telling.A_FILE)
     mark = telling.mark_met(call.was_marked, looking.is_marked(call.state)) if status == VIOLATION else None
-    return seen + telling.meanings(status, text, call.command, is_used, mark)
+    return telling.Known(looking.is_used(status, call), mark, facts, call.said, call.directory())
+
+
+def failure_lines(status, text, call):
+    known = known_of(status, call)
+    seen = looking.told_room(status, call) if known.is_used is False else []
+    return seen + telling.meanings(status, text, call.command, known)
 
 
 def success_lines(call):

@@ -10,6 +10,9 @@ NOT_RUN = 125
 ANOTHER_RUN = "another run uses "
 # What causes say of the record's mark: that it was there before the run, that the run made it, that there is none.
 EARLIER_MARK, MADE_MARK, NO_MARK = MARKS = "marked by an earlier run", "and STATE is marked", "isn't marked"
+# What causes say of words and folders, which are none where that doesn't hold, and of the output.
+RETURN, A_FILE = FACTS = "ends in `\\r`", "FOLDER is a file"
+SIGN = re.compile("where the output says `([a-z-]+)`")
 # What a new file system's owner has to know first.
 STATE_MATTERS = ("Without STATE nothing opens, password or not. Copy it after each run that writes, to another trusted place; "
                  "an older copy doesn't open newer blocks.")
@@ -59,14 +62,29 @@ def status_rows():
     return [tuple(cell.strip() for cell in line.split("|")) for line in lines]
 
 
-def meanings(status, text, command, is_used=None, mark=None):
-    """What the table says of a status, negative for a signal, and the text that the program printed, in a line for each cause.
-    Where it is known whether another run uses the folder, that cause stands alone, or not there; where the mark is, what fits it."""
+class Known:
+    """What is known behind a run: whether another one uses the folder and what the mark is, or None; causes' words that hold, how the answer
+    began that ended it, and the directory that it needs."""
+
+    def __init__(self, is_used, mark, facts, said, directory):
+        self.is_used, self.mark, self.facts, self.said, self.directory = is_used, mark, facts, said, directory
+
+    def is_cause(self, cause):
+        """Whether a cause may be one. Where it is known whether another run uses the folder, that cause stands alone, or not there."""
+        signs = SIGN.findall(cause)
+        return (self.is_used in (None, cause.startswith(ANOTHER_RUN)) and (self.mark is None or fits(cause, self.mark)) and
+                all(it in self.facts for it in FACTS if it in cause) and (self.said is None or all(it in self.said for it in signs)))
+
+
+def meanings(status, text, command, known):
+    """What the table says of a status, negative for a signal, and the text that the program printed, in a line for each cause."""
     rows = [row for row in status_rows() if row[0] == str(status if status >= 0 else 128 - status) and row[1] in ("", text)]
-    rows = [row for row in rows if command in (commands_of(row[2]) or [command])]
-    rows = [row for row in rows if is_used in (None, row[2].startswith(ANOTHER_RUN))]
-    rows = [row for row in rows if mark is None or fits(row[2], mark)]
-    return [f"{'or ' if number else ''}{cause}: {remedy}" for number, (_, _, cause, remedy) in enumerate(rows)]
+    rows = [row for row in rows if command in (commands_of(row[2]) or [command]) and known.is_cause(row[2])]
+    if status < 0:
+        # (what stopped it is told of a command by itself)
+        rows = [row for row in rows if commands_of(row[2])] or rows
+    remedies = [remedy.replace("`mkdir` PATH", f"`mkdir` {known.directory}") for _, _, _, remedy in rows]
+    return [f"{'or ' if number else ''}{row[2]}: {remedy}" for number, (row, remedy) in enumerate(zip(rows, remedies, strict=True))]
 
 
 def fits(cause, mark):

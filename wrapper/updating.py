@@ -44,7 +44,8 @@ class Update(Removal):
     def __init__(self, program, call, first):
         self.made, self.bytes, self.gone = dict.fromkeys(KINDS, 0), 0, []
         self.beside, self.has_beside = None, False
-        self.barred = {place_of(it) for it in map(os.stat, (call.blocks, call.state))}
+        # (where one isn't there the program says so)
+        self.barred = {place_of(os.stat(it)) for it in (call.blocks, call.state) if os.path.exists(it)}
         super().__init__(program, call, first)
 
     def host_fails(self, path, why):

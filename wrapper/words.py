@@ -24,6 +24,8 @@ class Call:
 
     def __init__(self, words, environment):
         self.source = self.was_marked = self.state_copy = None
+        # Whether the password's line ends as those of Windows do, and how the answer began that ended a session, where that is seen.
+        self.has_return, self.said = False, None
         left = self.take_options(list(words))
         self.blocks, self.state, self.rest = split_folders(left, environment)
         self.command = self.rest[0]
@@ -108,6 +110,11 @@ class Call:
     def words(self):
         """The words of the program."""
         return [self.blocks, self.state, *(["shell"] if self.asks_lines() else self.rest)]
+
+    def directory(self):
+        """The directory that a copy needs, as its words name it."""
+        path = self.rest[2] if self.command in COPIES else self.rest[1] if self.command == "put" else ""
+        return (path if self.command != "put" else path.rpartition("/")[0]) or "PATH"
 
     def check_folders(self):
         """Refuses folders that would give the record to whoever holds the blocks, and a record that isn't there."""
