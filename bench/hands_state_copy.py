@@ -199,6 +199,20 @@ def a_copy_that_is_killed_leaves_the_old_one(tree):
         same((held(tree), os.listdir(f"{tree.top}/c")), (held(tree, "s"), [RECORD]), "the next run brings it")
 
 
+def a_state_that_is_made_is_its_owners(tree):
+    modelled(tree)
+    same([stat.S_IMODE(os.stat(f"{tree.top}/{it}").st_mode) for it in "sb"], [0o700, 0o755], "who may read STATE and BLOCKS")
+    os.mkdir(f"{tree.top}/s2", 0o755)
+    same(tree.run("b2", "s2", "create", given=b"pw\n")[0], 0, "in a folder that is there")
+    same(stat.S_IMODE(os.stat(f"{tree.top}/s2").st_mode), 0o755, "which stays as it is")
+
+
+def no_memory_is_written_out(tree):
+    tree.built("#!/bin/sh\nulimit -c\nulimit -Hc\n").write("pw", "pw\n")
+    for words in ("b s info", "b s trial", "--password-file pw b s shell"):
+        same(tree.run("-c", f"ulimit -c unlimited; ./cryfs {words}", given=b"pw\n", script="/bin/sh"), (0, "0\n0\n", ""), words)
+
+
 def the_wrapper_stays_above_its_program(tree):
     tree.built("#!/bin/sh\necho $$\nread -r line\nexec sleep 30\n")
     for number in (signal.SIGTERM, signal.SIGHUP, signal.SIGKILL):
@@ -214,4 +228,5 @@ def the_wrapper_stays_above_its_program(tree):
 
 CASES = [each_run_that_changes_something_brings_a_copy, a_new_file_system_gets_a_copy, what_cannot_have_a_copy_is_refused_first,
          a_marked_record_takes_no_copys_place, a_run_that_failed_brings_what_state_has, a_copy_that_fails_is_told,
-         a_disk_that_is_full_or_read_only_keeps_the_old_copy, a_copy_that_is_killed_leaves_the_old_one, the_wrapper_stays_above_its_program]
+         a_disk_that_is_full_or_read_only_keeps_the_old_copy, a_copy_that_is_killed_leaves_the_old_one, a_state_that_is_made_is_its_owners,
+         no_memory_is_written_out, the_wrapper_stays_above_its_program]

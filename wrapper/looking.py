@@ -1,5 +1,5 @@
 """What a status doesn't tell a person: whether another run holds a folder, what room its disk has, whether STATE is marked, and which
-block files it takes."""
+block files it takes; and who may read a STATE that was made."""
 import fcntl
 import os
 
@@ -51,6 +51,14 @@ def told_room(status, call):
     except OSError:
         return []
     return [f"no other run uses {name} now, and its disk has {disk.f_bavail * disk.f_frsize:,} bytes free"]
+
+
+def narrow(state):
+    """Leaves a folder that was made to its owner alone, where its disk has rights."""
+    try:
+        os.chmod(state, 0o700)
+    except OSError:
+        pass
 
 
 def start_of(state):

@@ -194,6 +194,8 @@ def end(status, said, call, is_shown=False):
     cut = start_of_last(said) if status else len(said)
     if not is_shown:
         shown(said[:cut])
+    if call.makes_state:
+        looking.narrow(call.state)
     failure, last = state_copy.bring(call), said[cut:]
     if failure and not status:
         status, last, is_shown = state_copy.NOT_COPIED, f"cryfs: {state_copy.TEXT}\n".encode(), False

@@ -26,6 +26,8 @@ class Call:
         self.source = self.was_marked = self.state_copy = None
         # Whether the password's line ends as those of Windows do, and how the answer began that ended a session, where that is seen.
         self.has_return, self.said = False, None
+        # Whether STATE is made by this run.
+        self.makes_state = False
         left = self.take_options(list(words))
         self.blocks, self.state, self.rest = split_folders(left, environment)
         self.command = self.rest[0]
@@ -127,7 +129,9 @@ class Call:
             if lies_within(inner, outer):
                 raise Refused(f"{what}: {named(real(inner))} is below {named(real(outer))}. Name two folders of which none holds the other; "
                               "STATE stays on this machine")
-        if self.command != "create":
+        if self.command == "create":
+            self.makes_state = not os.path.lexists(self.state)
+        else:
             check_record(self.state)
             self.was_marked = is_marked(self.state)
 
