@@ -65,6 +65,18 @@ def a_long_line_comes_whole_through_stops_and_signals(tree):
         line(tree, "rm", "/big")
 
 
+def a_hang_up_that_the_caller_ignores_ends_nothing(tree):
+    modelled(tree).write("f/a", "1")
+    wants(tree, "pauses", mkfile=f"touch {tree.top}/begun; sleep 1")
+    started = tree.start("-c", "trap '' HUP; exec ./cryfs b s update f /", script="/bin/sh")
+    started.stdin.write(b"pw\n")
+    started.stdin.flush()
+    wait_until(lambda: os.path.exists(f"{tree.top}/begun"), "it never began")
+    started.send_signal(signal.SIGHUP)
+    out, errors = started.communicate(timeout=LIMIT)
+    same((started.returncode, out, errors), (0, b"updated 0 1 0 1\n", b""), "as under nohup")
+
+
 def a_folder_that_is_exchanged_is_not_followed(tree):
     modelled(tree)
     for what in ("s", "other"):
@@ -281,7 +293,8 @@ def deep_folders_are_reached(tree):
     same(line(tree, "ls", "/" + deep), "list 1\nf file\n", "the deepest folder")
 
 
-CASES = [a_long_line_comes_whole_through_stops_and_signals, a_folder_that_is_exchanged_is_not_followed, what_goes_or_is_exchanged_is_passed_over,
-         an_alarm_at_a_link_is_told, names_are_told_without_their_escapes, a_row_of_another_kind_is_there_until_the_new_one_is,
-         an_exchange_is_whole_or_undone, rows_of_that_name_which_are_no_updates_stay, an_empty_folder_deletes_nothing_unasked,
-         a_dry_run_changes_nothing, what_cannot_be_read_is_left_out_where_that_is_asked, deep_folders_are_reached]
+CASES = [a_long_line_comes_whole_through_stops_and_signals, a_hang_up_that_the_caller_ignores_ends_nothing,
+         a_folder_that_is_exchanged_is_not_followed, what_goes_or_is_exchanged_is_passed_over, an_alarm_at_a_link_is_told,
+         names_are_told_without_their_escapes, a_row_of_another_kind_is_there_until_the_new_one_is, an_exchange_is_whole_or_undone,
+         rows_of_that_name_which_are_no_updates_stay, an_empty_folder_deletes_nothing_unasked, a_dry_run_changes_nothing,
+         what_cannot_be_read_is_left_out_where_that_is_asked, deep_folders_are_reached]

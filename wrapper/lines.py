@@ -46,7 +46,9 @@ class Session:
         self.output = os.dup(1)
         os.dup2(2, 1)
         for it in ENDING:
-            signal.signal(it, self.heed)
+            # (what the caller ignores, as nohup does, ends nothing)
+            if signal.getsignal(it) != signal.SIG_IGN:
+                signal.signal(it, self.heed)
         if first is not None:
             # The answer to an empty line, which isn't shown, tells that the file system is open.
             self.answer(first + b"\n", shown=False)
