@@ -1,4 +1,5 @@
-"""Cases of `./cryfs --state-copy` over the program of `hands_model.py`: when STATE's record is copied, and what is refused."""
+"""Cases of `./cryfs --state-copy` over the program of `hands_model.py`: when STATE's record is copied, and what is refused. And over the program
+that was built in this checkout: the way back from a STATE that is lost."""
 import os
 import shutil
 import signal
@@ -6,6 +7,8 @@ import stat
 
 from hands_asking import OUT, modelled, wants
 from hands_model import record
+from hands_real import CHEAP
+from hands_real import line as asked
 from hands_tree import LIMIT, Terminal, has, require, same, wait_until
 
 RECORD = "cryfs.localstate"
@@ -226,6 +229,33 @@ def the_wrapper_stays_above_its_program(tree):
         started.communicate(timeout=LIMIT)
 
 
+def a_lost_state_is_taken_from_its_copy(tree):
+    tree.real().write("pw", "pw\n")
+    tree.write("f/d/a", "1")
+    tree.exported = {"CRYFS_STATE_COPY": "c"}
+    same(tree.run("b", "s", "create", *CHEAP, given=b"pw\n")[0], 0, "create")
+    for words in (("mkdir", "/x"), ("import", "f", "/x"), ("update", "f", "/"), ("rm", "-r", "/x"), ("ls", "/"), ("passwd",)):
+        status, _, errors = tree.run("b", "s", *words, given=b"pw\npw\n")
+        same((status, errors, held(tree)), (0, "", held(tree, "s")), words)
+    older = held(tree)
+    asked(tree, "mkdir", "/y")
+    shutil.rmtree(f"{tree.top}/s")
+    same(tree.run("b", "s", "ls", "/", given=b"pw\n")[0], 125, "without STATE")
+    same(tree.run("-a", "c", "s", script="/bin/cp")[0], 0, "the copy is taken")
+    same(asked(tree, "ls", "/"), "list 2\nd d\nd y\n", "all is there")
+    newest = held(tree)
+    keep(tree, "s", older)
+    status, _, errors = tree.run("b", "s", "ls", "/", given=b"pw\n")
+    same((status, held(tree, "s"), held(tree)), (125, older, newest), errors)
+    has(errors, "STATE is older than this copy")
+    tree.exported = {}
+    status, out, _ = tree.run("b", "s", "ls", "/", given=b"pw\n")
+    same((status, out[:23]), (5, "violation ahead-version"), "without the copy it is too late")
+    tree.exported = {"CRYFS_STATE_COPY": "c"}
+    same((tree.run("b", "s", "ls", "/", given=b"pw\n")[0], held(tree)), (125, newest), "a marked one that is older")
+
+
+REAL = [a_lost_state_is_taken_from_its_copy]
 CASES = [each_run_that_changes_something_brings_a_copy, a_new_file_system_gets_a_copy, what_cannot_have_a_copy_is_refused_first,
          a_marked_record_takes_no_copys_place, a_run_that_failed_brings_what_state_has, a_copy_that_fails_is_told,
          a_disk_that_is_full_or_read_only_keeps_the_old_copy, a_copy_that_is_killed_leaves_the_old_one, a_state_that_is_made_is_its_owners,
