@@ -110,6 +110,18 @@ def what_cannot_have_a_copy_is_refused_first(tree):
     same(tree.run("b", "s", "trial")[0] == 125, False, "a trial, which has no STATE")
 
 
+def what_only_looks_needs_no_copy(tree):
+    filled(tree)
+    old = held(tree)
+    tree.run("c", "away", script="/bin/mv")
+    for words in (("ls", "/"), ("check",), ("export", "f", "/"), ("update", "f", "/", "--dry-run", "--delete")):
+        status, _, errors = copied(tree, *words)
+        same((status, errors), (0, "cryfs: --state-copy c isn't there: nothing is copied\n"), words)
+    for words in (("mkdir", "/x"), ("update", "f", "/"), ("shell",)):
+        same(copied(tree, *words)[0], 125, words)
+    same((os.path.exists(f"{tree.top}/c"), held(tree, "away")), (False, old), "the folders")
+
+
 def a_marked_record_takes_no_copys_place(tree):
     filled(tree)
     good = held(tree)
@@ -256,7 +268,7 @@ def a_lost_state_is_taken_from_its_copy(tree):
 
 
 REAL = [a_lost_state_is_taken_from_its_copy]
-CASES = [each_run_that_changes_something_brings_a_copy, a_new_file_system_gets_a_copy, what_cannot_have_a_copy_is_refused_first,
+CASES = [each_run_that_changes_something_brings_a_copy, a_new_file_system_gets_a_copy, what_cannot_have_a_copy_is_refused_first, what_only_looks_needs_no_copy,
          a_marked_record_takes_no_copys_place, a_run_that_failed_brings_what_state_has, a_copy_that_fails_is_told,
          a_disk_that_is_full_or_read_only_keeps_the_old_copy, a_copy_that_is_killed_leaves_the_old_one, a_state_that_is_made_is_its_owners,
          no_memory_is_written_out, the_wrapper_stays_above_its_program]

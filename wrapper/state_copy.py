@@ -83,6 +83,11 @@ def check(call):
     for it, what in ((call.blocks, "BLOCKS"), (call.state, "STATE")):
         if same_folder(it, folder) or lies_within(folder, it):
             refuse(folder, f"it is {what} or lies in it: name a folder of another disk")
+    if call.looks() and not os.path.lexists(folder):
+        # (what only looks does so where the disk isn't at hand too)
+        say(f"--state-copy {named(folder)} isn't there: nothing is copied")
+        call.state_copy = None
+        return
     try:
         if call.command == "create":
             check_new(folder)

@@ -9,6 +9,8 @@ LINES = line_forms()
 COPIES = ("import", "export", "update")
 FILES = ("put", "get")
 COMMANDS = ("create", "info", "passwd", "migrate", "check", "shell", *COPIES, *FILES, "generate", "trial", *LINES)
+# Commands that change nothing in the tree.
+LOOKS = ("info", "check", "export", "get", "ls", "stat", "read", "readlink")
 CREATE_OPTIONS = ("--blocksize", "--scrypt-n", "--scrypt-r", "--scrypt-p")
 # Words that may stand behind those of a command.
 LATE_OPTIONS = {"import": ("--quiet", "--leave-out"), "export": ("--quiet",), "update": ("--quiet", "--leave-out", "--delete", "--delete-all", "--dry-run"),
@@ -90,6 +92,10 @@ class Call:
         """Whether the wrapper asks the lines of a session for it."""
         return self.removes_tree() or self.updates()
 
+    def looks(self):
+        """Whether it changes nothing in the tree."""
+        return self.command in LOOKS or self.rehearses()
+
     def is_quiet(self):
         return "--quiet" in self.rest[3:]
 
@@ -107,7 +113,7 @@ class Call:
 
     def rehearses(self):
         """Whether an update tells what it would do, and does nothing."""
-        return "--dry-run" in self.rest[3:]
+        return self.updates() and "--dry-run" in self.rest[3:]
 
     def words(self):
         """The words of the program."""
