@@ -1,11 +1,14 @@
 """Cases of `./cryfs update` and `./cryfs rm -r` over the program of `hands_model.py`: which lines they ask, and what happens in their midst."""
 import json
 import os
+import random
 import shutil
 import signal
 import time
 
+import kill_updates
 from hands_tree import LIMIT, has, require, same, wait_until
+from rows import make_rows
 
 OUT = "crates/cryfs/out"
 
@@ -172,6 +175,43 @@ def a_row_of_another_kind_is_there_until_the_new_one_is(tree):
     same(line(tree, "ls", "/"), "list 3\nf a\nd x\nf y\n", "what is there")
 
 
+def random_rows(chance):
+    """Rows of three levels, of each kind, with names that come again."""
+    rows = {}
+    for path in ("a", "b", "c", "d", "a/x", "a/y", "b/x", "b/y", "a/x/1", "b/y/1"):
+        above = os.path.dirname(path)
+        if chance.randrange(5) and (not above or rows.get(above, "") is None):
+            rows[path] = chance.choice([None, None, b"", b"one", b"two", "to1", "to2"])
+    return rows
+
+
+def seen_rows(rows):
+    """The rows that the model tells, as those of a folder."""
+    return {path[1:]: None if row["kind"] == "d" else bytes.fromhex(row["hex"]) if row["kind"] == "f" else bytes.fromhex(row["target"]).decode()
+            for path, row in rows.items() if path != "/"}
+
+
+def each_point_of_an_update_has_the_old_row_or_the_new_one(tree):
+    modelled(tree)
+    updates, chance = kill_updates.Updates.__new__(kill_updates.Updates), random.Random(3)
+    updates.rows, updates.counts = {}, dict.fromkeys(("kills", "in part", "whole", "not at all", "between two rows"), 0)
+    for number in range(25):
+        after = random_rows(chance)
+        make_rows(f"{tree.top}/f{number}", after)
+        tree.write(f"{OUT}/history", "")
+        status, _, errors = updated(tree, f"f{number}", "/", "--delete-all")
+        same((status, errors), (0, ""), f"update {number}")
+        points = [seen_rows(json.loads(it)) for it in tree.read(f"{OUT}/history").splitlines()]
+        for found in points:
+            try:
+                updates.judge(found, after, -signal.SIGKILL)
+            except kill_updates.Lost as why:
+                raise AssertionError(f"update {number}: {why}") from None
+        same(points[-1], after, f"the end of update {number}")
+        updates.rows = after
+    require(updates.counts["between two rows"] > 5 and updates.counts["in part"] > 50, updates.counts)
+
+
 def an_exchange_is_whole_or_undone(tree):
     modelled(tree)
     tree.write("f/a", "1")
@@ -293,8 +333,8 @@ def deep_folders_are_reached(tree):
     same(line(tree, "ls", "/" + deep), "list 1\nf file\n", "the deepest folder")
 
 
-CASES = [a_long_line_comes_whole_through_stops_and_signals, a_hang_up_that_the_caller_ignores_ends_nothing,
-         a_folder_that_is_exchanged_is_not_followed, what_goes_or_is_exchanged_is_passed_over, an_alarm_at_a_link_is_told,
-         names_are_told_without_their_escapes, a_row_of_another_kind_is_there_until_the_new_one_is, an_exchange_is_whole_or_undone,
-         rows_of_that_name_which_are_no_updates_stay, an_empty_folder_deletes_nothing_unasked, a_dry_run_changes_nothing,
-         what_cannot_be_read_is_left_out_where_that_is_asked, deep_folders_are_reached]
+CASES = [each_point_of_an_update_has_the_old_row_or_the_new_one, a_long_line_comes_whole_through_stops_and_signals,
+         a_hang_up_that_the_caller_ignores_ends_nothing, a_folder_that_is_exchanged_is_not_followed, what_goes_or_is_exchanged_is_passed_over,
+         an_alarm_at_a_link_is_told, names_are_told_without_their_escapes, a_row_of_another_kind_is_there_until_the_new_one_is,
+         an_exchange_is_whole_or_undone, rows_of_that_name_which_are_no_updates_stay, an_empty_folder_deletes_nothing_unasked,
+         a_dry_run_changes_nothing, what_cannot_be_read_is_left_out_where_that_is_asked, deep_folders_are_reached]

@@ -8,7 +8,8 @@ one, whose only block's version rises with each run that changed something. Besi
     pauses   the same, run behind the answer and before the next line is read
     answers  for each beginning of a line the answer that it gets; after a violation all are refused
     fails    a status and a text in which the run ends
-    lines    the lines that it was asked, which it writes itself"""
+    lines    the lines that it was asked, which it writes itself
+    history  where it is there, the rows behind each of them, which it writes itself"""
 import json
 import os
 import struct
@@ -170,6 +171,12 @@ class Run:
         except Wrong as why:
             return f"error {why}"
 
+    def tell_rows(self):
+        """Writes the rows as they are now, where that is wanted."""
+        if os.path.exists(f"{HERE}/history"):
+            with open(f"{HERE}/history", "a", encoding="ascii") as file:
+                file.write(json.dumps(self.rows.rows) + "\n")
+
     def close(self, changes=False):
         """Keeps what changed, and a record that tells of it."""
         with open(self.record, "rb") as file:
@@ -227,6 +234,7 @@ def main(blocks, state, command, *words):
         while raw := given.readline():
             line = os.fsdecode(raw).rstrip("\n")
             print(run.answer(line), flush=True)
+            run.tell_rows()
             act(run.pauses, line)
     elif command in LINES:
         print(run.answer(" ".join([command, *words])), flush=True)
