@@ -234,7 +234,8 @@ def rows_of_that_name_which_are_no_updates_stay(tree):
     modelled(tree)
     tree.write("f/a", "1")
     for lines in (("mkfile /.sergunad-update",), ("symlink x /.sergunad-update",), ("mkdir /.sergunad-update", "mkfile /.sergunad-update/mine"),
-                  ("mkdir /.sergunad-update", "mkdir /.sergunad-update/new")):
+                  ("mkdir /.sergunad-update", "mkdir /.sergunad-update/new"),
+                  ("mkdir /.sergunad-update", "mkdir /.sergunad-update/old", "mkfile /.sergunad-update/old/x")):
         for it in lines:
             same(line(tree, *it.split()), "ok\n", it)
         before = line(tree, "ls", "/")
@@ -242,7 +243,7 @@ def rows_of_that_name_which_are_no_updates_stay(tree):
             same(updated(tree, "f", "/", *words), (13, "error exists /.sergunad-update\n", "cryfs: copy refused\n"), lines)
         same(line(tree, "ls", "/"), before, "what is there")
         same(tree.run("b", "s", "rm", "-r", "/.sergunad-update", given=b"pw\n")[0], 0, "away")
-    for it in ("mkdir /.sergunad-update", "mkfile /.sergunad-update/new", "mkdir /.sergunad-update/old", "mkfile /.sergunad-update/old/x"):
+    for it in ("mkdir /.sergunad-update", "mkfile /.sergunad-update/new", "mkdir /.sergunad-update/old"):
         line(tree, *it.split())
     same(updated(tree, "f", "/"), (0, "updated 0 1 0 1\n", ""), "what an update left")
     same(line(tree, "ls", "/"), "list 1\nf a\n", "it went")

@@ -44,8 +44,10 @@ def is_ahead(one, other):
     """Whether a record knows what the other doesn't know yet."""
     if one.client != other.client:
         return one.client > other.client
+    if one.rows == other.rows:
+        return False
     known = blocks_of(other)
-    return one.rows != other.rows and any(known.get(of, (0, False)) < seen for of, seen in blocks_of(one).items())
+    return any(known.get(of, (0, False)) < seen for of, seen in blocks_of(one).items())
 
 
 def misfit(record, copy):

@@ -278,8 +278,14 @@ class Update(Removal):
             self.have(b"rmdir " + self.beside, path)
 
     def is_own(self, kind):
-        """Whether the row that has the update's name is what an update leaves: a directory with nothing but its draft and what was moved aside."""
-        return kind == b"d" and all((it == DRAFT and of != b"d") or it == ASIDE for of, it in self.left_in(self.beside))
+        """Whether the row that has the update's name is what an update leaves: a directory with nothing but its draft and what was moved aside, which
+        has no rows."""
+        if kind != b"d":
+            return False
+        rows = self.rows_at(self.beside)
+        if any(it not in (DRAFT, ASIDE) for it in rows) or rows.get(DRAFT) == b"d":
+            return False
+        return rows.get(ASIDE) != b"d" or not self.left_in(joined(self.beside, ASIDE))
 
     def refuse(self, why):
         """Ends it as words that aren't taken."""
