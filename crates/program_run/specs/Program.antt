@@ -25,7 +25,7 @@ abbrev pub folder_names : FolderVaultState → Option (List (List ℕ))
 folder_names v = None
 
 abbrev pub folder_record : KeeperGhosts FolderKeeperState
-folder_record = record { kept = kept_in; room = λ k. k.room; faults = λ k. k.faults }
+folder_record = record { kept = kept_in; room = λ k. k.room; faults = λ k. k.faults; takes = λ bytes. Unit {0} }
 
 -- an input of which nothing is told but how often it failed
 abbrev pub untold : ℕ → ℕ → Stream
