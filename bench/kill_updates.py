@@ -1,11 +1,11 @@
 #!/usr/bin/env python3
 """Stops `./cryfs update` at random times on real folders, and looks at what is there afterwards.
 
-Over and over on one file system: a folder gets other rows, and an update with --delete is killed, with the program, at any
-time within what a whole one takes. Then each row is that of before or that of the folder, and each path that both have is
-there. One alone may be missing, where its row changes its kind: then the old row is whole in the update's own directory, and
-so is the new one, where that is no directory. A whole update follows, after which the tree is the folder's. Every run prints
-its seed; the folders of a run that failed are kept.
+Over and over on one file system: a folder gets other rows, and an update with --delete-all is killed, with the program, at
+any time within what a whole one takes. Then each row is that of before or that of the folder, and each path that both have
+is there. One alone may be missing, where its row changes its kind: then the old row is whole in the update's own directory,
+and so is the new one, where that is no directory. A whole update follows, after which the tree is the folder's. Every run
+prints its seed; the folders of a run that failed are kept.
 """
 import argparse
 import os
@@ -94,11 +94,11 @@ class Updates:
         after = {path: row for path, row in after.items() if not os.path.dirname(path) or after.get(os.path.dirname(path), "") is None}
         make_rows(f"{self.top}/given", after)
         stop_after = None if self.usual is None else self.chance.uniform(0, 1.1 * self.usual)
-        status, seconds = self.call("update", "given", "/", "--delete", stop_after=stop_after)
+        status, seconds = self.call("update", "given", "/", "--delete-all", stop_after=stop_after)
         if status == 0:
             self.usual = seconds if self.usual is None else 0.5 * (self.usual + seconds)
         self.judge(self.found(), after, status)
-        self.whole("update", "given", "/", "--delete")
+        self.whole("update", "given", "/", "--delete-all")
         if self.found() != after:
             raise Lost("the tree isn't the folder's after a whole update")
         self.rows = after
