@@ -83,8 +83,8 @@ def meanings(status, text, command, known):
     if status < 0:
         # (what stopped it is told of a command by itself)
         rows = [row for row in rows if commands_of(row[2])] or rows
-    remedies = [remedy.replace("`mkdir` PATH", f"`mkdir` {known.directory}") for _, _, _, remedy in rows]
-    return [f"{'or ' if number else ''}{row[2]}: {remedy}" for number, (row, remedy) in enumerate(zip(rows, remedies, strict=True))]
+    makes = f"`mkdir` {known.directory}"
+    return [f"{'or ' if number else ''}{cause}: {remedy.replace('`mkdir` PATH', makes)}" for number, (_, _, cause, remedy) in enumerate(rows)]
 
 
 def fits(cause, mark):
