@@ -128,7 +128,9 @@ def a_program_that_ends_first_ends_a_put(tree):
         except BrokenPipeError:
             require(size, "an input without bytes")
         same(started.wait(LIMIT), 13, f"behind {size} bytes of an input that goes on")
-        same((started.stdout.read(), started.stderr.read()), (b"error exists /f\n", b"cryfs: copy refused\n"), "what is told")
+        same(started.stdout.read(), b"error exists /f\n", "the answer")
+        causes, _, last = started.stderr.read().decode().rpartition("cryfs: copy refused\n")
+        require(tree.is_cause(13, causes) and not last, f"what is told: {causes}{last}")
 
 
 def a_status_is_explained_for_its_command(tree):
