@@ -154,7 +154,7 @@ def a_terminal_sees_how_far_an_update_is(tree):
     terminal = asks(tree, "update", "f", "/none")
     status, seen = terminal.end()
     same(status, 13, seen)
-    has(seen, "error no-entry /none\r\n", "cryfs: copy refused\r\ncryfs: `update` met a row of another kind")
+    has(seen, "error no-entry /none\r\n", "cryfs: copy refused\r\ncryfs: `import`, `put` or `update` found no directory", "`mkdir` /none first")
 
 
 CASES = [what_is_new_or_changed_is_written, an_import_is_gone_on_with, a_row_of_another_kind_goes_where_that_is_asked, what_cannot_be_updated_is_told,
