@@ -82,22 +82,32 @@ def a_hang_up_that_the_caller_ignores_ends_nothing(tree):
 
 def a_folder_that_is_exchanged_is_not_followed(tree):
     modelled(tree)
-    for what in ("s", "other"):
+    tree.write("other/new", "1")
+    other = "was exchanged for something else meanwhile"
+    for put, told, rows in ((f"ln -s {tree.top}/s f/d", other, "list 0\n"), (f"ln -s {tree.top}/other f/d", other, "list 0\n"), ("touch f/d", other, "list 0\n"),
+                            ("mkfifo f/d", other, "list 0\n"), ("true", "has gone meanwhile", "list 0\n"), ("cp -r other f/d", "", "list 1\nf new\n")):
         tree.write("f/d/kept", "1")
         tree.write("f/z", "1")
-        tree.write("other/secret", "1")
         # The folder above has been listed by then, and this one not yet.
-        put = f"ln -s {tree.top}/{what} f/d" if what == "s" else "cp -r other f/d"
         wants(tree, "hooks", mkdir__d=f"cd {tree.top}; mv f/d moved; {put}")
         status, out, errors = updated(tree, "f", "/")
-        same((status, out), (0, "updated 1 1 0 1\n"), errors)
-        has(errors, "cryfs: f/d was exchanged for ", " meanwhile: passed over\n")
-        same(line(tree, "ls", "/"), "list 2\nd d\nf z\n", "what is there")
-        same(line(tree, "ls", "/d"), "list 0\n", "nothing came from elsewhere")
+        same((status, errors), (0, f"cryfs: f/d {told}: passed over\n" if told else ""), put)
+        same((line(tree, "ls", "/"), line(tree, "ls", "/d")), ("list 2\nd d\nf z\n", rows), put)
         wants(tree, "hooks")
         same(tree.run("-c", f"rm -rf {tree.top}/f/d {tree.top}/moved", script="/bin/sh")[0], 0, "away")
         same(updated(tree, "f", "/", "--delete")[0], 0, "again")
         line(tree, "rm", "/z")
+    os.makedirs(f"{tree.top}/f/d")
+    if tree.run("--bind", "s", "f/d", script="/bin/mount")[0]:
+        print("nothing can be mounted here: left out")
+        return
+    tree.run("f/d", script="/bin/umount")
+    wants(tree, "hooks", mkdir__d=f"mount --bind {tree.top}/s {tree.top}/f/d")
+    try:
+        status, out, errors = updated(tree, "f", "/")
+        same((status, out, errors), (12, "", "cryfs: f/d: BLOCKS or STATE, which isn't copied\ncryfs: host folder fault\n"), "STATE itself")
+    finally:
+        tree.run("f/d", script="/bin/umount")
 
 
 def what_goes_or_is_exchanged_is_passed_over(tree):
@@ -110,7 +120,7 @@ def what_goes_or_is_exchanged_is_passed_over(tree):
     status, out, errors = updated(tree, "f", "/")
     same((status, out), (0, "updated 0 2 0 5\n"), errors)
     same(errors.splitlines(), ["cryfs: f/b was exchanged for something else meanwhile: passed over", "cryfs: f/c has gone meanwhile: passed over",
-                               "cryfs: f/d is no file any more: passed over",
+                               "cryfs: f/d was exchanged for something else meanwhile: passed over",
                                "cryfs: f/link was exchanged for something else meanwhile: passed over"], "what is named")
     same(line(tree, "ls", "/"), "list 2\nf a\nf saved\n", "what is there")
     wants(tree, "hooks")

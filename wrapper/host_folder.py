@@ -8,6 +8,7 @@ KINDS = {stat.S_IFDIR: b"d", stat.S_IFREG: b"f", stat.S_IFLNK: b"l"}
 # What the system says where the name has gone, or something of another kind has it now.
 GONE = (errno.ENOENT,)
 OTHER = (errno.ELOOP, errno.ENOTDIR, errno.EISDIR, errno.EINVAL, errno.ENXIO, errno.EMLINK)
+OTHER_NOW = "was exchanged for something else meanwhile"
 # The folders that may be open, one in the other: a path of the file system has no more names.
 OPEN_FOLDERS = 4096
 
@@ -58,21 +59,30 @@ class Folder:
         except OSError as why:
             raise changed(why) from None
 
-    def folder(self, name, numbers):
-        """The folder of this name, which has to be the one that was listed."""
-        file = self.open_row(name, os.O_DIRECTORY)
-        if place_of(os.fstat(file)) != place_of(numbers):
-            os.close(file)
-            raise Exchanged("was exchanged for another one meanwhile")
-        return Folder(self.path_of(name), file)
+    def open_as(self, name, numbers, flags):
+        """Opens a row of the kind and, where it was listed so, of the place of these numbers. One that took its place counts as well, as a file does
+        that was saved anew; and some file systems number a row anew."""
+        file = self.open_row(name, flags)
+        seen = os.fstat(file)
+        if kind_of(seen) == kind_of(numbers) and (place_of(seen) == place_of(numbers) or self.is_at(name, seen)):
+            return file
+        os.close(file)
+        raise Exchanged(OTHER_NOW)
 
-    def open_file(self, name):
-        """The file of this name, to be read. One that was saved anew meanwhile counts as well: it is the folder's file now."""
-        file = self.open_row(name, 0)
-        if not stat.S_ISREG(os.fstat(file).st_mode):
-            os.close(file)
-            raise Exchanged("is no file any more")
-        return os.fdopen(file, "rb")
+    def is_at(self, name, numbers):
+        """Whether what has these numbers has this name now."""
+        try:
+            return place_of(os.stat(name, dir_fd=self.file, follow_symlinks=False)) == place_of(numbers)
+        except FileNotFoundError:
+            return False
+
+    def folder(self, name, numbers):
+        """The folder of this name."""
+        return Folder(self.path_of(name), self.open_as(name, numbers, os.O_DIRECTORY))
+
+    def open_file(self, name, numbers):
+        """The file of this name, to be read."""
+        return os.fdopen(self.open_as(name, numbers, 0), "rb")
 
     def target(self, name):
         """The target of the link of this name."""
@@ -80,6 +90,9 @@ class Folder:
             return os.readlink(name, dir_fd=self.file)
         except OSError as why:
             raise changed(why) from None
+
+    def is_one_of(self, places):
+        return place_of(os.fstat(self.file)) in places
 
     def lies_in(self, places):
         """Whether it is one of these folders, or lies in one, wherever it was moved."""
@@ -103,7 +116,7 @@ def changed(why):
     """What a refusal of the system means for a row that was listed: that it was exchanged, or the refusal itself."""
     if why.errno in GONE:
         return Exchanged("has gone meanwhile")
-    return Exchanged("was exchanged for something else meanwhile") if why.errno in OTHER else why
+    return Exchanged(OTHER_NOW) if why.errno in OTHER else why
 
 
 def open_folder(path):

@@ -109,7 +109,7 @@ class Update(Removal):
                 below.append((name, numbers, at, there != b"d"))
             else:
                 update = self.update_file if kind == b"f" else self.update_link
-                self.read_here(folder.path_of(name), lambda: update(folder, name, at, there))
+                self.read_here(folder.path_of(name), lambda: update(folder, (name, numbers), at, there))
         return below
 
     def read_here(self, path, work):
@@ -184,8 +184,8 @@ class Update(Removal):
     def note(self, word, path):
         """Takes note of what is done, where that is told."""
 
-    def update_link(self, folder, name, path, there):
-        target = folder.target(name)
+    def update_link(self, folder, row, path, there):
+        name, target = row[0], folder.target(row[0])
         if not is_text(target):
             self.leave_out(folder.path_of(name), "has a target that is no text")
         elif there != b"l" or self.link_at(path) != escaped(target):
@@ -199,8 +199,8 @@ class Update(Removal):
             self.fail(answer, path)
         return answer[5:]
 
-    def update_file(self, folder, name, path, there):
-        with folder.open_file(name) as file:
+    def update_file(self, folder, row, path, there):
+        with folder.open_file(*row) as file:
             numbers = os.fstat(file.fileno())
             if there == b"f" and self.is_unchanged(file, numbers, path):
                 return
@@ -302,6 +302,8 @@ class Update(Removal):
                 open_ones.pop()[0].close()
                 continue
             here = self.read_here(above.path_of(name), lambda: above.folder(name, numbers))
+            if here and here.is_one_of(self.barred):
+                self.host_fails(here.path, "BLOCKS or STATE, which isn't copied")
             found = here and self.read_here(here.path, lambda: self.entries(here))
             if found is not None:
                 rows = {} if is_new else self.rows_at(at)
