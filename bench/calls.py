@@ -30,7 +30,7 @@ import subprocess
 import sys
 import tempfile
 
-from kill import Lost
+from killing import Lost
 from kinds import KINDS, Copied, made_for
 from runs import BUILT, Program
 

@@ -112,7 +112,7 @@ def make(program, folder):
 
 def main(program, folder):
     made, record, second, first, waiting = make(program, folder)
-    print("// A file system that was made by `bench/golden.py` with the program as it was on", time.strftime("%Y-%m-%d."))
+    print("// A file system that was made by `golden.py` with the program as it was on", time.strftime("%Y-%m-%d."))
     print(f"// {made}")
     print_text("CONFIG", "The configuration's file.", read(f"{folder}/blocks/cryfs.config"))
     print_text("RECORD", "The local record after the second session.", record)

@@ -9,6 +9,7 @@ and then the one for AVX2, where this processor has that. `--program FILE` has t
 the cases to run; `built` are those that take such a program, `unbuilt` the others. Without words all are run. A case that finds
 no terminal here, or no module of python that it needs, is skipped, and counts as neither."""
 import os
+import signal
 import subprocess
 import sys
 import tempfile
@@ -60,6 +61,9 @@ def passes(case, program=None):
 
 
 def main(words):
+    # What is started here has the system's own answer to signals, also where this was begun with some ignored.
+    for it in (signal.SIGINT, signal.SIGHUP):
+        signal.signal(it, signal.default_int_handler if it == signal.SIGINT else signal.SIG_DFL)
     programs = programs_here()
     if words[:1] == ["--program"]:
         programs, words = [os.path.abspath(words[1])], words[2:]

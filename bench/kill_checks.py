@@ -1,26 +1,11 @@
-#!/usr/bin/env python3
-"""Stops `check` and `check --all` of the built program at random times on real folders, and looks at what is there afterwards.
-
-Over and over on one file system, which has a file of some hundred blocks, each time by one of the two words:
-
-    over what waits   a session of random lines is killed, so that its changes may wait in the record, and then a check. An honest
-                      session must find the tree of a kept point
-    over honest files a check is killed. No file of either folder may have changed, come or gone, and what was printed is a front
-                      part of what a whole check prints
-    over damage       a block's file is changed, cut, removed or put in another's place, and a check is killed. No file may have changed, but
-                      that the record may be marked by `check`; one that wasn't killed ends with 5. With the files of before the tree is there
-
-Every run prints its seed; the folders of a run that failed are kept.
-"""
+"""Kills of `check` and `check --all`."""
 import glob
 import os
 import shutil
 import signal
-import sys
 
-from kill import Lost, kept_points, repeat_alone, some_lines
+from killing import Compared, Lost, kept_points, some_lines
 
-KILLS_OF_ONE = 30
 # A file whose blocks take a check some time.
 FILLING = ["mkfile /large", "truncate /large 8000000"]
 RECORD, MARK_AT = "cryfs.localstate", 19
@@ -46,18 +31,37 @@ def marked(files):
     return {**files, RECORD: record[:MARK_AT] + b"\1" + record[MARK_AT + 1 :]}
 
 
-class Checking:
-    """The checks over one file system, and the seconds that a whole one of each kind takes."""
+class Checks(Compared):
+    """On a file system that has a file of some hundred blocks, each time by one of the two words:
 
-    def __init__(self, system, chance, counts):
-        self.system, self.folders, self.chance, self.counts, self.usual = system, system.folders, chance, counts, {}
+    over what waits   a session of random lines is killed, so that its changes may wait in the record, and then a check. An honest
+                      session must find the tree of a kept point
+    over honest files a check is killed. No file of either folder may have changed, come or gone, and what was printed is a front
+                      part of what a whole check prints
+    over damage       a block's file is changed, cut, removed or put in another's place, and a check is killed. No file may have
+                      changed, but that the record may be marked by `check`; one that wasn't killed ends with 5. With the files of
+                      before the tree is there
+    """
+
+    KILLS_OF_ONE = 30
+
+    def __init__(self, *words):
+        super().__init__(*words)
+        # The seconds that a whole check of each kind takes.
+        self.usual = {}
         self.session(FILLING)
 
-    def session(self, lines):
-        ended = self.system.program.session(self.folders, lines)
-        if ended.status:
-            raise Lost(f"a whole session ended with status {ended.status}: {ended.errors}")
-        self.system.look(lines, ended.answers, [len(lines)])
+    def once(self):
+        words = self.chance.choice([["check"], ["check", "--all"]])
+        self.over_what_waits(words)
+        self.over_honest_files(words)
+        self.over_damage(words)
+
+    def note(self, ended, words, where):
+        if ended.status == -signal.SIGKILL:
+            self.count("kills")
+            self.count(f"of {' '.join(words)} over {where}")
+            self.count("with something printed", ended.output != "")
 
     def check(self, words, statuses, is_whole=False):
         """A check that is killed at any time, in one of two cases near its end, where it prints; one that nothing is known of is left
@@ -65,32 +69,25 @@ class Checking:
         kind = " ".join(words), statuses
         usual = self.usual.get(kind)
         after = None if is_whole or usual is None else self.chance.uniform(self.chance.choice([0, 0.9 * usual]), 1.05 * usual)
-        ended = self.system.program.run(self.folders, words, stop_after=after)
+        ended = self.program.run(self.folders, words, stop_after=after)
         if ended.status in statuses:
             self.usual[kind] = ended.seconds if usual is None else 0.5 * usual + 0.5 * ended.seconds
         elif ended.status != -signal.SIGKILL:
             raise Lost(f"{kind[0]} ended with status {ended.status}: {ended.errors}{ended.output[-300:]}")
         return ended
 
-    def count(self, ended, words, where):
-        if ended.status == -signal.SIGKILL:
-            what = f"of {' '.join(words)} over {where}"
-            self.counts["kills"] += 1
-            self.counts[what] = self.counts.get(what, 0) + 1
-            self.counts["with something printed"] = self.counts.get("with something printed", 0) + (ended.output != "")
-
-    def over_what_waits(self, words, block_size):
-        lines = some_lines(self.chance, block_size)
+    def over_what_waits(self, words):
+        lines = some_lines(self.chance, self.block_size)
         stopped = self.system.stop_in(lines, self.chance)
         ended = self.check(words, (0,))
-        self.count(ended, words, "what waits")
+        self.note(ended, words, "what waits")
         self.system.look(lines, stopped.answers, kept_points(lines, stopped))
 
     def over_honest_files(self, words):
         whole = self.check(words, (0,), True)
         before = [files_of(it) for it in (self.folders.blocks, self.folders.state)]
         ended = self.check(words, (0,))
-        self.count(ended, words, "honest files")
+        self.note(ended, words, "honest files")
         if [files_of(it) for it in (self.folders.blocks, self.folders.state)] != before:
             raise Lost(f"{words} changed a file")
         if not whole.output.startswith(ended.output) or (ended.status == 0 and ended.output != whole.output):
@@ -117,28 +114,15 @@ class Checking:
         self.damage()
         blocks, state = files_of(self.folders.blocks), kept_in(self.folders.state)
         ended = self.check(words, (5,))
-        self.count(ended, words, "damage")
+        self.note(ended, words, "damage")
         found = kept_in(self.folders.state)
         is_marked = found == marked(state)
         if files_of(self.folders.blocks) != blocks or (found != state and (not is_marked or "--all" in words)):
             raise Lost(f"{words} over damage changed more than the mark: {sorted(found)}")
         if ended.status == 5 and is_marked == ("--all" in words):
             raise Lost(f"{words} over damage left the mark at {is_marked}")
-        self.counts["left a mark"] = self.counts.get("left a mark", 0) + is_marked
+        self.count("left a mark", is_marked)
         for copy in honest:
             shutil.rmtree(copy.removesuffix(".honest"))
             os.rename(copy, copy.removesuffix(".honest"))
         self.system.look([], [], [0])
-
-
-def kill_checks(system, chance, block_size, counts):
-    if not hasattr(system, "checking"):
-        system.checking = Checking(system, chance, counts)
-    words = chance.choice([["check"], ["check", "--all"]])
-    system.checking.over_what_waits(words, block_size)
-    system.checking.over_honest_files(words)
-    system.checking.over_damage(words)
-
-
-if __name__ == "__main__":
-    sys.exit(repeat_alone(__doc__, "checks", kill_checks, KILLS_OF_ONE))

@@ -1,23 +1,11 @@
-#!/usr/bin/env python3
-"""Stops `import` and `export` of the built program at random times on real folders, and looks at what is there afterwards.
-
-Over and over on one file system: a session makes its tree empty, or leaves some of it, and syncs. Then a folder of random rows is imported, by a run
-that is killed at any time within what a whole one takes. An honest session must find the tree after some of the import's commands,
-from the first on; after all of them, where the run ended with 0. So what was synced before is there. Then, over a whole import, an export into an empty folder is killed likewise:
-the tree must be as it was, and the folder a part of it, or all of it where the run ended with 0.
-
-What is compared is what `trial`, the plain tree in memory, answers to the same lines. Every run prints its seed; the folders of a run that failed are
-kept.
-"""
+"""Kills of `import` and `export`."""
 import os
 import shutil
 import signal
-import sys
 
-from kill import PATHS, Lost, repeat_alone
+from killing import PATHS, Compared, Lost
 from rows import asked, is_part, make_rows, rows_of, told
 
-KILLS_OF_ONE = 20
 EMPTYING = [f"{word} {path}" for path in reversed(PATHS) for word in ("rm", "rmdir")] + ["sync"]
 
 
@@ -34,30 +22,43 @@ def random_rows(chance, block_size):
     return rows
 
 
-class Copying:
-    """The runs over one file system, and the seconds that a whole copy of each kind takes."""
+class Copies(Compared):
+    """A session makes the tree empty, or leaves some of it, and syncs. Then a folder of random rows is imported, by a run that is
+    killed at any time within what a whole one takes. An honest session must find the tree after some of the import's commands, from
+    the first on; after all of them, where the run ended with 0. So what was synced before is there. Then, over a whole import, an
+    export into an empty folder is killed likewise: the tree must be as it was, and the folder a part of it, or all of it where the
+    run ended with 0."""
 
-    def __init__(self, system, chance):
-        self.system, self.chance, self.usual = system, chance, {}
+    KILLS_OF_ONE = 20
+
+    def __init__(self, *words):
+        super().__init__(*words)
+        # The seconds that a whole copy of each kind takes.
+        self.usual = {}
+
+    def once(self):
+        rows = random_rows(self.chance, self.block_size)
+        given, filled = (os.path.join(self.top, name) for name in ("given", "filled"))
+        make_rows(given, rows)
+        self.import_some(rows, given)
+        if rows_of(given) != rows:
+            raise Lost("an import changed its folder")
+        self.export_some(rows, filled)
+        shutil.rmtree(given)
+        shutil.rmtree(filled)
 
     def copy(self, word, host, is_whole=False):
         """A copy that is killed at any time; one that nothing is known of is left alone."""
         usual = self.usual.get(word)
         after = None if is_whole or usual is None else self.chance.uniform(0, 1.1 * usual)
-        ended = self.system.program.run(self.system.folders, [word, host, "/"], stop_after=after)
+        ended = self.program.run(self.folders, [word, host, "/"], stop_after=after)
         if ended.status == 0:
             self.usual[word] = ended.seconds if usual is None else 0.5 * usual + 0.5 * ended.seconds
         elif ended.status != -signal.SIGKILL:
             raise Lost(f"{word} ended with status {ended.status}: {ended.errors}{ended.output}")
         return ended
 
-    def session(self, lines):
-        ended = self.system.program.session(self.system.folders, lines)
-        if ended.status:
-            raise Lost(f"a whole session ended with status {ended.status}: {ended.errors}")
-        self.system.look(lines, ended.answers, [len(lines)])
-
-    def import_some(self, rows, host, counts):
+    def import_some(self, rows, host):
         """How far an import came that was killed is counted; a whole one follows where it was."""
         self.session(EMPTYING)
         lines, done = asked(rows)
@@ -67,14 +68,14 @@ class Copying:
         kept = self.system.look(lines, [], done[-1:] if ended.status == 0 else done)
         how = "whole" if kept == len(lines) else "in part" if kept else "not at all"
         if ended.status:
-            counts["kills"] += 1
-            counts[f"imports kept {how}"] = counts.get(f"imports kept {how}", 0) + 1
+            self.count("kills")
+            self.count(f"imports kept {how}")
         if kept < len(lines):
             self.session(EMPTYING)
             self.copy("import", host, True)
             self.system.look(lines, [], [len(lines)])
 
-    def export_some(self, rows, host, counts):
+    def export_some(self, rows, host):
         os.mkdir(host)
         ended = self.copy("export", host)
         found = rows_of(host)
@@ -82,24 +83,6 @@ class Copying:
             raise Lost(f"an export that ended with {ended.status} left {sorted(found)} of {sorted(rows)}")
         self.system.look([], [], [0])
         if ended.status:
-            counts["kills"] += 1
+            self.count("kills")
             how = "whole" if found == rows else "in part" if found else "empty"
-            counts[f"exports left {how}"] = counts.get(f"exports left {how}", 0) + 1
-
-
-def kill_copies(system, chance, block_size, counts):
-    if not hasattr(system, "copying"):
-        system.copying = Copying(system, chance)
-    rows = random_rows(chance, block_size)
-    given, filled = (os.path.join(system.folders.top, name) for name in ("given", "filled"))
-    make_rows(given, rows)
-    system.copying.import_some(rows, given, counts)
-    if rows_of(given) != rows:
-        raise Lost("an import changed its folder")
-    system.copying.export_some(rows, filled, counts)
-    shutil.rmtree(given)
-    shutil.rmtree(filled)
-
-
-if __name__ == "__main__":
-    sys.exit(repeat_alone(__doc__, "copies", kill_copies, KILLS_OF_ONE))
+            self.count(f"exports left {how}")

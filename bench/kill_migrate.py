@@ -1,21 +1,12 @@
-#!/usr/bin/env python3
-"""Stops `migrate` of the built program at random times, on the file system that a program of before block format 2 made.
-
-Its bytes are those of `golden_tests`. Over and over they are laid into folders, and one to three runs of `migrate` are killed at
-any time within what a whole one takes. Then `check` must print what it printed before, and `migrate`, run to its end, must leave
-files of format 2 alone and the same tree. Prints how many runs were killed, and how often both formats lay there.
-
-    bench/kill_migrate.py [--seed N] [--times N]
-"""
-import argparse
+"""Kills of `migrate`."""
 import glob
 import os
-import random
 import re
 import shutil
 import signal
 
-from runs import BUILT, TOP, Folders, Program
+from killing import Kind, Lost
+from runs import TOP, Folders, Program
 
 PASSWORD = "pw"
 STORED = os.path.join(TOP, "crates", "golden_tests", "src", "stored.rt")
@@ -47,50 +38,35 @@ def formats(folders):
     return {open(path, "rb").read(16)[14] for path in glob.glob(f"{folders.blocks}/*/*")}
 
 
-class Migrations:
-    def __init__(self, program, folders):
-        self.program, self.folders = program, folders
-        lay_out(folders)
+class Migrations(Kind):
+    """On the file system that a program of before block format 2 made, whose bytes are those of `golden_tests`. They are laid into
+    folders, and one to three runs of `migrate` are killed at any time within what a whole one takes. Then `check` must print what
+    it printed before, and `migrate`, run to its end, must leave files of format 2 alone and the same tree."""
+
+    def __init__(self, given, chance, counts):
+        super().__init__(given, chance, counts)
+        self.folders, self.program = Folders(given.folder), Program(given.program)
+        self.top = self.folders.top
+        lay_out(self.folders)
         self.listed = self.whole("check")
-        started = self.program.run(folders, ["migrate"], password=PASSWORD)
-        self.usual, self.killed, self.mixed = started.seconds, 0, 0
+        self.usual = self.program.run(self.folders, ["migrate"], password=PASSWORD).seconds
 
     def whole(self, word):
         ended = self.program.run(self.folders, [word], password=PASSWORD)
         if ended.status:
-            raise SystemExit(f"{word} ended with status {ended.status}: {ended.errors}{ended.output}")
+            raise Lost(f"{word} ended with status {ended.status}: {ended.errors}{ended.output}")
         return ended.output
 
-    def stop_some(self, chance):
-        """Kills one to three migrations, and looks at what is there."""
+    def once(self):
         lay_out(self.folders)
-        for _ in range(chance.randint(1, 3)):
-            after = chance.uniform(0, 1.05 * self.usual)
+        for _ in range(self.chance.randint(1, 3)):
+            after = self.chance.uniform(0, 1.05 * self.usual)
             ended = self.program.run(self.folders, ["migrate"], password=PASSWORD, stop_after=after)
-            self.killed += ended.status == -signal.SIGKILL
-        self.mixed += len(formats(self.folders)) > 1
+            self.count("kills", ended.status == -signal.SIGKILL)
+        self.count("looks")
+        self.count("at both formats", len(formats(self.folders)) > 1)
         if self.whole("check") != self.listed:
-            raise SystemExit("another tree, or other blocks, after a kill")
+            raise Lost("another tree, or other blocks, after a kill")
         self.whole("migrate")
         if formats(self.folders) != {2} or self.whole("check") != self.listed:
-            raise SystemExit("not all was written anew by a whole run")
-
-
-def main():
-    parser = argparse.ArgumentParser(description=__doc__.splitlines()[0])
-    parser.add_argument("--seed", type=int, default=1)
-    parser.add_argument("--times", type=int, default=100)
-    parser.add_argument("--program", default=BUILT)
-    given = parser.parse_args()
-    folders, chance = Folders(), random.Random(given.seed)
-    try:
-        migrations = Migrations(Program(given.program), folders)
-        for _ in range(given.times):
-            migrations.stop_some(chance)
-    finally:
-        folders.remove()
-    print(f"seed {given.seed}: {migrations.killed} runs were killed, after {migrations.mixed} of {given.times} looks both formats lay there; nothing was lost")
-
-
-if __name__ == "__main__":
-    main()
+            raise Lost("not all was written anew by a whole run")

@@ -1,43 +1,36 @@
-#!/usr/bin/env python3
-"""Stops `./cryfs update` at random times on real folders, and looks at what is there afterwards.
-
-Over and over on one file system: a folder gets other rows, and an update with --delete-all is killed, with the program, at
-any time within what a whole one takes. Then each row is that of before or that of the folder, and each path that both have
-is there. One alone may be missing, where its row changes its kind: then the old row is whole in the update's own directory,
-and so is the new one, where that is no directory. A whole update follows, after which the tree is the folder's. Every run
-prints its seed; the folders of a run that failed are kept.
-"""
-import argparse
+"""Kills of `./cryfs update`."""
 import os
-import random
 import shutil
 import signal
 import subprocess
-import sys
 import tempfile
 import threading
 import time
 
 from kill_copies import random_rows
+from killing import Kind, Lost
 from rows import make_rows, rows_of
+from runs import TOP
 
-TOP = os.path.dirname(os.path.dirname(os.path.abspath(__file__)))
 BESIDE = ".sergunad-update"
 # The statuses of a run that met another one, which is still ending.
 USED = (6, 7)
 
 
-class Lost(Exception):
-    """Something isn't as it has to be."""
+class Updates(Kind):
+    """A folder gets other rows, and an update with --delete-all is killed, with the program, at any time within what a whole one takes.
+    Then each row is that of before or that of the folder, and each path that both have is there. One alone may be missing, where
+    its row changes its kind: then the old row is whole in the update's own directory, and so is the new one, where that is no
+    directory. A whole update follows, after which the tree is the folder's. `./cryfs` of this checkout runs its own program,
+    whatever `--program` says."""
 
+    KILLS_OF_ONE = 100
 
-class Updates:
-    """One file system, its folders, and the seconds that a whole update takes."""
-
-    def __init__(self, top, chance, block_size):
-        self.top, self.chance, self.block_size, self.usual, self.rows = top, chance, block_size, None, {}
-        self.counts = {"kills": 0, "in part": 0, "whole": 0, "not at all": 0, "between two rows": 0}
-        self.call("create", "--scrypt-n", "16", "--blocksize", str(block_size))
+    def __init__(self, given, chance, counts):
+        super().__init__(given, chance, counts)
+        self.usual, self.rows = None, {}
+        self.top = tempfile.mkdtemp(prefix="cryfs-updates-", dir=given.folder)
+        self.call("create", "--scrypt-n", "16", "--blocksize", str(given.block_size))
 
     def call(self, *words, stop_after=None):
         """The status and the seconds of a run, which is killed with all that it began."""
@@ -76,9 +69,9 @@ class Updates:
         if odd or len(gone) > 1 or gone != kept or status == 0 and found != after:
             raise Lost(f"after status {status}: neither old nor new {odd}, gone {gone}, of these beside {kept}")
         if status:
-            self.counts["kills"] += 1
-            self.counts["between two rows"] += len(kept)
-            self.counts["whole" if left == after else "not at all" if left == self.rows else "in part"] += 1
+            self.count("kills")
+            self.count("between two rows", len(kept))
+            self.count("whole" if left == after else "not at all" if left == self.rows else "in part")
 
     def is_beside(self, path, found, after):
         """Whether a row that changes its kind was moved aside, and the new one waits."""
@@ -86,7 +79,7 @@ class Updates:
         kinds = type(self.rows[path]) is not type(after[path])
         return kinds and old in found and found[old] == self.rows[path] and (after[path] is None or found.get(new, None) == after[path])
 
-    def update(self):
+    def once(self):
         shutil.rmtree(f"{self.top}/given", ignore_errors=True)
         after = random_rows(self.chance, self.block_size)
         # (some rows stay, so that what both have can be looked for)
@@ -102,27 +95,3 @@ class Updates:
         if self.found() != after:
             raise Lost("the tree isn't the folder's after a whole update")
         self.rows = after
-
-
-def main():
-    parser = argparse.ArgumentParser(description=__doc__, formatter_class=argparse.RawDescriptionHelpFormatter)
-    parser.add_argument("--kills", type=int, default=100)
-    parser.add_argument("--seed", type=int, default=random.SystemRandom().randrange(1 << 32))
-    parser.add_argument("--block-size", type=int, default=16384)
-    arguments = parser.parse_args()
-    print(f"seed {arguments.seed}", flush=True)
-    top = tempfile.mkdtemp(prefix="kill-updates-")
-    updates = Updates(top, random.Random(arguments.seed), arguments.block_size)
-    try:
-        while updates.counts["kills"] < arguments.kills:
-            updates.update()
-    except Lost as why:
-        print(f"LOST in {top}: {why}; {updates.counts}")
-        return 1
-    shutil.rmtree(top)
-    print(f"nothing lost: {updates.counts}")
-    return 0
-
-
-if __name__ == "__main__":
-    sys.exit(main())

@@ -2,7 +2,7 @@
 import os
 import shutil
 
-from kill import LOOK, Lost, System, without_times
+from killing import LOOK, Lost, System, without_times
 from kill_migrate import PASSWORD as OLD_PASSWORD
 from kill_migrate import formats, lay_out
 from rows import asked, is_part, make_rows, rows_of, told

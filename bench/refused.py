@@ -15,7 +15,7 @@ import tempfile
 from dataclasses import replace
 
 from calls import some_numbers
-from kill import Lost
+from killing import Lost
 from kinds import KINDS, Copied, made_for
 from runs import BUILT, Program
 
