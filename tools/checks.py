@@ -5,9 +5,9 @@
     tools/checks.py ci     passes on what `rt ci` and a last line `status N` give to the input, and then runs them
 
 Of each check what it printed last is shown, or all where it failed, and that it passed, failed or was skipped: what it needs
-isn't here. The last line is `N passed, M failed` with the checks as one each, behind `ci` with what `rt ci` counted in its own
-last line. It ends with 1 where something failed. All checks together take at most five minutes: one that hasn't ended is
-stopped, and failed."""
+isn't here, or its time was over. The last line is `N passed, M failed` with the checks as one each, behind `ci` with what `rt ci`
+counted in its own last line. It ends with 1 where something failed. All checks together take some five minutes at most: one that
+hasn't ended by then is interrupted. Each case of the wrapper has a limit of its own, so that one which hangs fails by that."""
 import os
 import re
 import signal
@@ -19,8 +19,10 @@ from concurrent.futures import ThreadPoolExecutor
 from prove import TOP
 
 BUILT = f"{TOP}/crates/cryfs/out/cryfs"
-LIMIT = 300
-# What is run: the last two play the wrapper as a person meets it, beside each other since they wait most of the time.
+LIMIT = 290
+# Seconds that one has to end after it was interrupted.
+GRACE = 10
+# They run beside each other. The last two play the wrapper as a person meets it, and wait most of the time.
 CHECKS = ("tools/crates.py cryfs", "tools/names.py", "tools/plants.py", "tools/pages.py", "tools/prose.py", "bench/hands.py unbuilt", "bench/hands.py built")
 
 
@@ -46,16 +48,29 @@ def lacking(words, is_proved):
 
 
 def run(words, end):
-    """The status of a check and what it printed; it is stopped once the time is over."""
+    """The result of a check and what it printed. It is interrupted once the time is over."""
     how = {"cwd": TOP, "stdin": subprocess.DEVNULL, "stdout": subprocess.PIPE, "stderr": subprocess.STDOUT, "start_new_session": True}
     environment = {**os.environ, "PYTHONDONTWRITEBYTECODE": "1"}
     started = subprocess.Popen([sys.executable, *words.split()], env=environment, **how)
     try:
-        told = started.communicate(timeout=max(1, end - time.monotonic()))[0]
+        told = started.communicate(timeout=max(1, end - time.monotonic()))[0].decode(errors="replace")
+        return "failed" if started.returncode else "passed", told
     except subprocess.TimeoutExpired:
-        os.killpg(started.pid, signal.SIGKILL)
-        told = started.communicate()[0] + b"it was stopped: its time is over\n"
-    return started.returncode, told.decode(errors="replace")
+        return stop(started)
+
+
+def stop(started):
+    """The same of a check whose time is over: it is skipped, unless something failed before."""
+    for number in (signal.SIGINT, signal.SIGKILL):
+        os.killpg(started.pid, number)
+        try:
+            told = started.communicate(timeout=GRACE)[0].decode(errors="replace")
+            break
+        except subprocess.TimeoutExpired:
+            told = ""
+    done = [line for line in told.splitlines(keepends=True) if line.startswith(("passed ", "FAILED ", "skipped"))]
+    is_well = not any(line.startswith("FAILED ") for line in done)
+    return "skipped" if is_well else "failed", "".join(done) + f"its time was over after {len(done)} cases\n"
 
 
 def check_all(is_proved):
@@ -65,12 +80,11 @@ def check_all(is_proved):
         why = {it: lacking(it, is_proved) for it in CHECKS}
         started = {it: pool.submit(run, it, end) for it in CHECKS if not why[it]}
         for it in CHECKS:
-            status, told = started[it].result() if it in started else (None, f"{why[it]}\n")
-            result = "skipped" if status is None else "failed" if status else "passed"
+            result, told = started[it].result() if it in started else ("skipped", f"{why[it]}\n")
             counts[result] += 1
             lines = told.splitlines(keepends=True)
-            print("".join(lines if result == "failed" else [line for line in lines[:-1] if line.startswith("skipped")] + lines[-1:]), end="")
-            print(f"checks: {it}: {result}", flush=True)
+            shown = lines if result == "failed" else [line for line in lines[:-1] if line.startswith("skipped")] + lines[-1:]
+            print(*shown, f"checks: {it}: {result}\n", sep="", end="", flush=True)
     return counts["passed"], counts["failed"]
 
 
