@@ -3,7 +3,7 @@
 
     tools/plants.py NAME           all of crates/NAME/plants/*.edit
     tools/plants.py NAME EDIT..    those of them that are named, with or without .edit
-    tools/plants.py                tries none, and names those of all crates that can't be laid into the source
+    tools/plants.py                tries none, names those of all crates that can't be laid into the source, and counts all
 
 An edit has the form of those in must-fail/: `file:`, `old:` and `new:`, a line each. One that the contracts let
 through begins with a line `hole: SENTENCE`, which says what no clause says. Each is tried by `rt must-fail` in a copy
@@ -59,7 +59,10 @@ def name_unfit():
     edits = [it for kind in ("must-fail", "plants") for it in sorted(glob.glob(f"{TOP}/crates/*/{kind}/*.edit"))]
     found = {it: unfit(os.path.dirname(os.path.dirname(it)), it) for it in edits}
     lines = [f"{os.path.relpath(it, TOP)}: {why}" for it, why in found.items() if why]
-    print("\n".join([*lines, f"{len(found)} edits, {len(lines)} of them bad"]))
+    plants = [it for it in edits if os.path.basename(os.path.dirname(it)) == "plants"]
+    holes = sum(read(it).startswith(HOLE) for it in plants)
+    counts = f"{len(edits) - len(plants)} edits of the gate, {len(plants)} plants, {holes} of them holes"
+    print("\n".join([*lines, f"{counts}; {len(lines)} can't be laid in"]))
     return not lines
 
 
