@@ -1,0 +1,4 @@
+pub mod Reading
+pub mod Layout
+pub mod Laws
+pub mod Numbers
