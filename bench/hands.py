@@ -40,7 +40,7 @@ def is_chosen(case, words):
     return not words or case.__name__ in words or ("built" if case in REAL else "unbuilt") in words
 
 
-def passes(case, program=None):
+def passes(case, program=None, failed="FAILED"):
     """Whether a case passed; nothing where it can't be tried here."""
     name = case.__name__ if program in (None, BUILT) else f"{case.__name__} by {os.path.basename(program)}"
     # What a run that was killed still writes may keep a folder from going.
@@ -49,7 +49,7 @@ def passes(case, program=None):
         try:
             case(tree)
         except (AssertionError, subprocess.TimeoutExpired) as why:
-            print(f"FAILED {name}: {why}", flush=True)
+            print(f"{failed} {name}: {why}", flush=True)
             return False
         except Skipped as why:
             print(f"skipped {name}: {why}", flush=True)
@@ -60,6 +60,12 @@ def passes(case, program=None):
     return True
 
 
+def passes_once_or_twice(case, program):
+    """The same, where one that failed is tried once more: some wait for a moment that a busy machine may miss."""
+    result = passes(case, program, "once more")
+    return passes(case, program) if result is False else result
+
+
 def main(words):
     # What is started here has the system's own answer to signals, also where this was begun with some ignored.
     for it in (signal.SIGINT, signal.SIGHUP):
@@ -68,7 +74,8 @@ def main(words):
     if words[:1] == ["--program"]:
         programs, words = [os.path.abspath(words[1])], words[2:]
     chosen = [(case, None) for case in CASES] + [(case, it) for it in programs for case in REAL]
-    told = [passes(*it) for it in chosen if is_chosen(it[0], words)]
+    chosen = [it for it in chosen if is_chosen(it[0], words)]
+    told = [passes_once_or_twice(*it) for it in chosen]
     if not programs:
         print(f"{len(REAL)} weren't run: the program isn't built")
     print(f"{told.count(True)} passed, {told.count(False)} failed, {told.count(None)} skipped")
