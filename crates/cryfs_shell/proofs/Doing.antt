@@ -18,13 +18,15 @@ use Rattle.run_status.specs.declared.status.Status.{Status}
 use Rattle.run_status.specs.declared.status.Status.TheVariants.{Done, Usage, LongPassword, Violation, HostFault}
 use Rattle.trial_runs.specs.session_lines.declared.end.End.{End}
 use Rattle.session_laws.specs.Runs.{outside_of}
+use Rattle.copy_runs.specs.copy_file.Coming.{ComesPut, ComesGet}
+use Rattle.copy_runs.specs.host_folder.Folders.{HostPath}
 use Rattle.copy_runs.specs.shell_runs.Sessions.{ComesShell, ComesGenerated, ComesCommand}
 use Rattle.program_words.specs.declared.form.Form.{Form}
 use Rattle.program_words.specs.declared.form.Form.TheVariants.{Trial, TrialGenerate, Create, Info, Passwd, Migrate, Shell, Generate, Command, Import, Export, Put, Get, Check, Survey}
 use Rattle.program_words.specs.Forms.{joined}
 use Rattle.copy_runs.proofs.copy_sessions_lemmas.Imported.{told_host as copy_host}
 use Rattle.cryfs_shell.specs.Clauses.{IsRefusedRun, NoFalseAlarm, KeepsTree, FaultsHappened, IsEmptied}
-use Rattle.cryfs_shell.specs.Copies.{Imports, Exports, Puts, Gets}
+use Rattle.cryfs_shell.specs.Copies.{Imports, Exports}
 use Rattle.cryfs_shell.specs.Doing.{Did, IsCaused}
 use Rattle.cryfs_shell.specs.Hosts.{HostSeen}
 use Rattle.cryfs_shell.specs.Kinds.{is_session, opens}
@@ -74,23 +76,14 @@ module _ {V : Type 0} {K : Type 0} (trace : V → Option (List Call)) (faults : 
   command_causes : (script : Option (List ℕ)) (end : End) (own : Status) (es : List Exchange) → ComesCommand (joined words) input output script end own es → EndCause end input output
   command_causes script end own es came = reported_cause input output _ end came.0.0.2
 
-  import_causes : (script : Option (List ℕ)) (end : End) (own : Status) (es : List Exchange) → Imports words input output host script end own es → EndCause end input output
-  import_causes script end own es (path, is, same, came) = reported_cause input output _ end came.told.written
+  import_causes : (path : HostPath) (script : Option (List ℕ)) (end : End) (own : Status) (es : List Exchange) → Imports path input output host script end own es → EndCause end input output
+  import_causes path script end own es (same, came) = reported_cause input output _ end came.told.written
 
-  export_causes : (script : Option (List ℕ)) (end : End) (own : Status) (es : List Exchange) → Exports words input output host script end own es → EndCause end input output
-  export_causes script end own es (path, is, came) = reported_cause input output _ end came.told.written
+  export_causes : (path : HostPath) (script : Option (List ℕ)) (end : End) (own : Status) (es : List Exchange) → Exports path input output host script end own es → EndCause end input output
+  export_causes path script end own es came = reported_cause input output _ end came.told.written
 
-  put_causes : (script : Option (List ℕ)) (end : End) (own : Status) (es : List Exchange) → Puts words input output script end own es → EndCause end input output
-  put_causes script end own es (path, is, came) = put_cause path script input output end own es came
-
-  get_causes : (script : Option (List ℕ)) (end : End) (own : Status) (es : List Exchange) → Gets words input output script end own es → EndCause end input output
-  get_causes script end own es (path, is, came) = get_cause path input output end own es came
-
-  put_hostless : (script : Option (List ℕ)) (end : End) (own : Status) (es : List Exchange) → Puts words input output script end own es → own ≡ HostFault → ⊥
-  put_hostless script end own es (path, is, came) e = put_unhosted path 0 script input output end own es came e
-
-  get_hostless : (script : Option (List ℕ)) (end : End) (own : Status) (es : List Exchange) → Gets words input output script end own es → own ≡ HostFault → ⊥
-  get_hostless script end own es (path, is, came) e = get_unhosted path input output end own es came e
+  get_causes : (path : HostPath) (script : Option (List ℕ)) (end : End) (own : Status) (es : List Exchange) → ComesGet path input output script end own es → EndCause end input output
+  get_causes path script end own es came = get_cause path input output end own es came
 
   abbrev Doing : Form → Type 0
   Doing form = Did trace faults names G words now s vault keeper ended (Some form)
@@ -108,10 +101,10 @@ module _ {V : Type 0} {K : Type 0} (trace : V → Option (List Call)) (faults : 
   doing_faults Shell d k = session_faults trace faults G input output vault keeper ended now (ComesShell input output) shell_causes d
   doing_faults (Generate count) d k = session_faults trace faults G input output vault keeper ended now (ComesGenerated count input output) (generated_causes count) d
   doing_faults Command d k = session_faults trace faults G input output vault keeper ended now (ComesCommand (joined words) input output) command_causes d
-  doing_faults Import d k = session_faults trace faults G input output vault keeper ended now (Imports words input output host) import_causes d.0
-  doing_faults Export d k = session_faults trace faults G input output vault keeper ended now (Exports words input output host) export_causes d.0
-  doing_faults Put d k = session_faults trace faults G input output vault keeper ended now (Puts words input output) put_causes d
-  doing_faults Get d k = session_faults trace faults G input output vault keeper ended now (Gets words input output) get_causes d
+  doing_faults (Import path) d k = session_faults trace faults G input output vault keeper ended now (Imports path input output host) (import_causes path) d.0
+  doing_faults (Export path) d k = session_faults trace faults G input output vault keeper ended now (Exports path input output host) (export_causes path) d.0
+  doing_faults (Put path) d k = session_faults trace faults G input output vault keeper ended now (ComesPut path input output) (put_cause path) d
+  doing_faults (Get path) d k = session_faults trace faults G input output vault keeper ended now (ComesGet path input output) (get_causes path) d
   doing_faults Check d k = checked_faults trace faults names G input output vault keeper ended k d
   doing_faults Survey d k = surveyed_faults trace faults names G input output vault keeper ended k d
 
@@ -125,10 +118,10 @@ module _ {V : Type 0} {K : Type 0} (trace : V → Option (List Call)) (faults : 
   doing_refusal Shell e d k marked = session_refusal trace faults G input output vault keeper ended now (ComesShell input output) shell_causes d marked
   doing_refusal (Generate count) e d k marked = session_refusal trace faults G input output vault keeper ended now (ComesGenerated count input output) (generated_causes count) d marked
   doing_refusal Command e d k marked = session_refusal trace faults G input output vault keeper ended now (ComesCommand (joined words) input output) command_causes d marked
-  doing_refusal Import e d k marked = session_refusal trace faults G input output vault keeper ended now (Imports words input output host) import_causes d.0 marked
-  doing_refusal Export e d k marked = session_refusal trace faults G input output vault keeper ended now (Exports words input output host) export_causes d.0 marked
-  doing_refusal Put e d k marked = session_refusal trace faults G input output vault keeper ended now (Puts words input output) put_causes d marked
-  doing_refusal Get e d k marked = session_refusal trace faults G input output vault keeper ended now (Gets words input output) get_causes d marked
+  doing_refusal (Import path) e d k marked = session_refusal trace faults G input output vault keeper ended now (Imports path input output host) (import_causes path) d.0 marked
+  doing_refusal (Export path) e d k marked = session_refusal trace faults G input output vault keeper ended now (Exports path input output host) (export_causes path) d.0 marked
+  doing_refusal (Put path) e d k marked = session_refusal trace faults G input output vault keeper ended now (ComesPut path input output) (put_cause path) d marked
+  doing_refusal (Get path) e d k marked = session_refusal trace faults G input output vault keeper ended now (ComesGet path input output) (get_causes path) d marked
   doing_refusal Check e d k marked = checked_refusal trace faults names G input output vault keeper ended k d marked
   doing_refusal Survey e d k marked = surveyed_refusal trace faults names G input output vault keeper ended k d marked
 
@@ -142,10 +135,10 @@ module _ {V : Type 0} {K : Type 0} (trace : V → Option (List Call)) (faults : 
   doing_alarm Shell d k bytes c first f honest e = session_alarm trace faults G input output vault keeper ended now (ComesShell input output) shell_causes d bytes c first f honest e
   doing_alarm (Generate count) d k bytes c first f honest e = session_alarm trace faults G input output vault keeper ended now (ComesGenerated count input output) (generated_causes count) d bytes c first f honest e
   doing_alarm Command d k bytes c first f honest e = session_alarm trace faults G input output vault keeper ended now (ComesCommand (joined words) input output) command_causes d bytes c first f honest e
-  doing_alarm Import d k bytes c first f honest e = session_alarm trace faults G input output vault keeper ended now (Imports words input output host) import_causes d.0 bytes c first f honest e
-  doing_alarm Export d k bytes c first f honest e = session_alarm trace faults G input output vault keeper ended now (Exports words input output host) export_causes d.0 bytes c first f honest e
-  doing_alarm Put d k bytes c first f honest e = session_alarm trace faults G input output vault keeper ended now (Puts words input output) put_causes d bytes c first f honest e
-  doing_alarm Get d k bytes c first f honest e = session_alarm trace faults G input output vault keeper ended now (Gets words input output) get_causes d bytes c first f honest e
+  doing_alarm (Import path) d k bytes c first f honest e = session_alarm trace faults G input output vault keeper ended now (Imports path input output host) (import_causes path) d.0 bytes c first f honest e
+  doing_alarm (Export path) d k bytes c first f honest e = session_alarm trace faults G input output vault keeper ended now (Exports path input output host) (export_causes path) d.0 bytes c first f honest e
+  doing_alarm (Put path) d k bytes c first f honest e = session_alarm trace faults G input output vault keeper ended now (ComesPut path input output) (put_cause path) d bytes c first f honest e
+  doing_alarm (Get path) d k bytes c first f honest e = session_alarm trace faults G input output vault keeper ended now (ComesGet path input output) (get_causes path) d bytes c first f honest e
   doing_alarm Check d k bytes c first f honest e = checked_alarm trace faults names G input output vault keeper ended k d bytes c first f honest e
   doing_alarm Survey d k bytes c first f honest e = surveyed_alarm trace faults names G input output vault keeper ended k d bytes c first f honest e
 
@@ -159,10 +152,10 @@ module _ {V : Type 0} {K : Type 0} (trace : V → Option (List Call)) (faults : 
   doing_keeps Shell e d k bytes c first f = session_keeps trace faults G input output vault keeper ended now (ComesShell input output) shell_causes d bytes c first f
   doing_keeps (Generate count) e d k bytes c first f = session_keeps trace faults G input output vault keeper ended now (ComesGenerated count input output) (generated_causes count) d bytes c first f
   doing_keeps Command e d k bytes c first f = session_keeps trace faults G input output vault keeper ended now (ComesCommand (joined words) input output) command_causes d bytes c first f
-  doing_keeps Import e d k bytes c first f = session_keeps trace faults G input output vault keeper ended now (Imports words input output host) import_causes d.0 bytes c first f
-  doing_keeps Export e d k bytes c first f = session_keeps trace faults G input output vault keeper ended now (Exports words input output host) export_causes d.0 bytes c first f
-  doing_keeps Put e d k bytes c first f = session_keeps trace faults G input output vault keeper ended now (Puts words input output) put_causes d bytes c first f
-  doing_keeps Get e d k bytes c first f = session_keeps trace faults G input output vault keeper ended now (Gets words input output) get_causes d bytes c first f
+  doing_keeps (Import path) e d k bytes c first f = session_keeps trace faults G input output vault keeper ended now (Imports path input output host) (import_causes path) d.0 bytes c first f
+  doing_keeps (Export path) e d k bytes c first f = session_keeps trace faults G input output vault keeper ended now (Exports path input output host) (export_causes path) d.0 bytes c first f
+  doing_keeps (Put path) e d k bytes c first f = session_keeps trace faults G input output vault keeper ended now (ComesPut path input output) (put_cause path) d bytes c first f
+  doing_keeps (Get path) e d k bytes c first f = session_keeps trace faults G input output vault keeper ended now (ComesGet path input output) (get_causes path) d bytes c first f
   doing_keeps Check e d k bytes c first f = checked_keeps trace faults names G input output vault keeper ended k d bytes c first f
   doing_keeps Survey e d k bytes c first f = surveyed_keeps trace faults names G input output vault keeper ended k d bytes c first f
 
@@ -176,10 +169,10 @@ module _ {V : Type 0} {K : Type 0} (trace : V → Option (List Call)) (faults : 
   doing_emptied Shell q d e = session_emptied trace faults G input output vault keeper ended now (ComesShell input output) shell_causes d e
   doing_emptied (Generate count) q d e = session_emptied trace faults G input output vault keeper ended now (ComesGenerated count input output) (generated_causes count) d e
   doing_emptied Command q d e = session_emptied trace faults G input output vault keeper ended now (ComesCommand (joined words) input output) command_causes d e
-  doing_emptied Import q d e = session_emptied trace faults G input output vault keeper ended now (Imports words input output host) import_causes d.0 e
-  doing_emptied Export q d e = session_emptied trace faults G input output vault keeper ended now (Exports words input output host) export_causes d.0 e
-  doing_emptied Put q d e = session_emptied trace faults G input output vault keeper ended now (Puts words input output) put_causes d e
-  doing_emptied Get q d e = session_emptied trace faults G input output vault keeper ended now (Gets words input output) get_causes d e
+  doing_emptied (Import path) q d e = session_emptied trace faults G input output vault keeper ended now (Imports path input output host) (import_causes path) d.0 e
+  doing_emptied (Export path) q d e = session_emptied trace faults G input output vault keeper ended now (Exports path input output host) (export_causes path) d.0 e
+  doing_emptied (Put path) q d e = session_emptied trace faults G input output vault keeper ended now (ComesPut path input output) (put_cause path) d e
+  doing_emptied (Get path) q d e = session_emptied trace faults G input output vault keeper ended now (ComesGet path input output) (get_causes path) d e
   doing_emptied Check q d e = absurd (cc)
   doing_emptied Survey q d e = absurd (cc)
 
@@ -193,10 +186,10 @@ module _ {V : Type 0} {K : Type 0} (trace : V → Option (List Call)) (faults : 
   doing_uncalled Shell d k e = session_uncalled trace faults G input output vault keeper ended now (ComesShell input output) shell_causes d e
   doing_uncalled (Generate count) d k e = session_uncalled trace faults G input output vault keeper ended now (ComesGenerated count input output) (generated_causes count) d e
   doing_uncalled Command d k e = session_uncalled trace faults G input output vault keeper ended now (ComesCommand (joined words) input output) command_causes d e
-  doing_uncalled Import d k e = session_uncalled trace faults G input output vault keeper ended now (Imports words input output host) import_causes d.0 e
-  doing_uncalled Export d k e = session_uncalled trace faults G input output vault keeper ended now (Exports words input output host) export_causes d.0 e
-  doing_uncalled Put d k e = session_uncalled trace faults G input output vault keeper ended now (Puts words input output) put_causes d e
-  doing_uncalled Get d k e = session_uncalled trace faults G input output vault keeper ended now (Gets words input output) get_causes d e
+  doing_uncalled (Import path) d k e = session_uncalled trace faults G input output vault keeper ended now (Imports path input output host) (import_causes path) d.0 e
+  doing_uncalled (Export path) d k e = session_uncalled trace faults G input output vault keeper ended now (Exports path input output host) (export_causes path) d.0 e
+  doing_uncalled (Put path) d k e = session_uncalled trace faults G input output vault keeper ended now (ComesPut path input output) (put_cause path) d e
+  doing_uncalled (Get path) d k e = session_uncalled trace faults G input output vault keeper ended now (ComesGet path input output) (get_causes path) d e
   doing_uncalled Check d k e = checked_uncalled trace faults names G input output vault keeper ended k d e
   doing_uncalled Survey d k e = surveyed_uncalled trace faults names G input output vault keeper ended k d e
 
@@ -210,10 +203,10 @@ module _ {V : Type 0} {K : Type 0} (trace : V → Option (List Call)) (faults : 
   doing_usage Shell d k e = session_usage trace faults G input output vault keeper ended now (ComesShell input output) shell_causes d e
   doing_usage (Generate count) d k e = session_usage trace faults G input output vault keeper ended now (ComesGenerated count input output) (generated_causes count) d e
   doing_usage Command d k e = session_usage trace faults G input output vault keeper ended now (ComesCommand (joined words) input output) command_causes d e
-  doing_usage Import d k e = session_usage trace faults G input output vault keeper ended now (Imports words input output host) import_causes d.0 e
-  doing_usage Export d k e = session_usage trace faults G input output vault keeper ended now (Exports words input output host) export_causes d.0 e
-  doing_usage Put d k e = session_usage trace faults G input output vault keeper ended now (Puts words input output) put_causes d e
-  doing_usage Get d k e = session_usage trace faults G input output vault keeper ended now (Gets words input output) get_causes d e
+  doing_usage (Import path) d k e = session_usage trace faults G input output vault keeper ended now (Imports path input output host) (import_causes path) d.0 e
+  doing_usage (Export path) d k e = session_usage trace faults G input output vault keeper ended now (Exports path input output host) (export_causes path) d.0 e
+  doing_usage (Put path) d k e = session_usage trace faults G input output vault keeper ended now (ComesPut path input output) (put_cause path) d e
+  doing_usage (Get path) d k e = session_usage trace faults G input output vault keeper ended now (ComesGet path input output) (get_causes path) d e
   doing_usage Check d k e = checked_usage trace faults names G input output vault keeper ended k d e
   doing_usage Survey d k e = surveyed_usage trace faults names G input output vault keeper ended k d e
 
@@ -231,9 +224,9 @@ module _ {V : Type 0} {K : Type 0} (trace : V → Option (List Call)) (faults : 
   doing_host Shell d k e = session_host trace faults G input output vault keeper ended now (ComesShell input output) shell_causes Rose (λ script end own es came h. absurd (host_undone (sym h ∙ came.1))) d e
   doing_host (Generate count) d k e = session_host trace faults G input output vault keeper ended now (ComesGenerated count input output) (generated_causes count) Rose (λ script end own es came h. absurd (host_undone (sym h ∙ came.1))) d e
   doing_host Command d k e = session_host trace faults G input output vault keeper ended now (ComesCommand (joined words) input output) command_causes Rose (λ script end own es came h. absurd (host_undone (sym h ∙ came.1))) d e
-  doing_host Import d k e = session_host trace faults G input output vault keeper ended now (Imports words input output host) import_causes Rose (λ script end own es came h. copy_host _ came.3.result _ output end own host.faults host.risen came.3.told h came.3.host) d.0 e
-  doing_host Export d k e = session_host trace faults G input output vault keeper ended now (Exports words input output host) export_causes Rose (λ script end own es came h. copy_host _ came.2.result _ output end own host.faults host.risen came.2.told h came.2.host) d.0 e
-  doing_host Put d k e = session_host trace faults G input output vault keeper ended now (Puts words input output) put_causes Rose (λ script end own es came h. absurd (put_hostless script end own es came h)) d e
-  doing_host Get d k e = session_host trace faults G input output vault keeper ended now (Gets words input output) get_causes Rose (λ script end own es came h. absurd (get_hostless script end own es came h)) d e
+  doing_host (Import path) d k e = session_host trace faults G input output vault keeper ended now (Imports path input output host) (import_causes path) Rose (λ script end own es came h. copy_host _ came.1.result _ output end own host.faults host.risen came.1.told h came.1.host) d.0 e
+  doing_host (Export path) d k e = session_host trace faults G input output vault keeper ended now (Exports path input output host) (export_causes path) Rose (λ script end own es came h. copy_host _ came.result _ output end own host.faults host.risen came.told h came.host) d.0 e
+  doing_host (Put path) d k e = session_host trace faults G input output vault keeper ended now (ComesPut path input output) (put_cause path) Rose (λ script end own es came h. absurd (put_unhosted path 0 script input output end own es came h)) d e
+  doing_host (Get path) d k e = session_host trace faults G input output vault keeper ended now (ComesGet path input output) (get_causes path) Rose (λ script end own es came h. absurd (get_unhosted path input output end own es came h)) d e
   doing_host Check d k e = absurd (checked_host trace faults names G input output vault keeper ended k d e)
   doing_host Survey d k e = absurd (surveyed_host trace faults names G input output vault keeper ended k d e)

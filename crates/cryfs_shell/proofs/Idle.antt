@@ -88,10 +88,10 @@ module _ {V : Type 0} {K : Type 0} (trace : V → Option (List Call)) (faults : 
     memory_did takes (Some Shell) = inl one
     memory_did takes (Some (Generate count)) = inl one
     memory_did takes (Some Command) = inl one
-    memory_did takes (Some Import) = (inl one, inl still)
-    memory_did takes (Some Export) = (inl one, inl still)
-    memory_did takes (Some Put) = inl one
-    memory_did takes (Some Get) = inl one
+    memory_did takes (Some (Import path)) = (inl one, inl still)
+    memory_did takes (Some (Export path)) = (inl one, inl still)
+    memory_did takes (Some (Put path)) = inl one
+    memory_did takes (Some (Get path)) = inl one
     memory_did takes (Some Check) = inl one
     memory_did takes (Some Survey) = inl one
 

@@ -9,7 +9,7 @@ use Rattle.trial_runs.specs.answers.declared.answer.Answer.{Answer}
 use Rattle.copy_runs.specs.copy_laws.declared.copied.Totals.{Totals}
 use Rattle.copy_runs.specs.copy_laws.Questions.{Question}
 use Rattle.copy_runs.specs.copy_sessions.Fitting.{kept_after}
-use Rattle.copy_runs.specs.copy_file.Coming.{IsPutTold, IsPutSession, IsGetEnd, IsGetSession}
+use Rattle.copy_runs.specs.copy_file.Coming.{IsPutTold, IsPutSession, IsGetEnd, IsGetSession, ComesPut, ComesGet}
 use Rattle.copy_runs.specs.copy_file.Getting.{IsGet}
 use Rattle.copy_runs.specs.copy_file.Putting.{InputBy}
 use Rattle.copy_runs.specs.host_folder.Folders.{HostPath}
@@ -59,7 +59,7 @@ use Rattle.program_words.specs.Forms.{joined}
 use Rattle.cryfs_shell.proofs.Checks.{state_named, output_named}
 use Rattle.cryfs_shell.proofs.Migrations.{memory_named, or_done}
 use Rattle.cryfs_shell.specs.Clauses.{FaultsNamed, MayHide, MayHideState, StreamFaultsNamed}
-use Rattle.cryfs_shell.specs.Copies.{Imports, Exports, Puts, Gets}
+use Rattle.cryfs_shell.specs.Copies.{Imports, Exports}
 use Rattle.cryfs_shell.specs.Doing.{Did}
 use Rattle.cryfs_shell.specs.Hosts.{HostSeen}
 use Rattle.cryfs_shell.specs.Kinds.{is_session}
@@ -346,10 +346,10 @@ module _ {V : Type 0} {K : Type 0} (trace : V → Option (List Call)) (faults : 
   doing_named Shell e d = absurd (cc)
   doing_named (Generate count) e d = absurd (cc)
   doing_named Command e d = absurd (cc)
-  doing_named Import e d = absurd (cc)
-  doing_named Export e d = absurd (cc)
-  doing_named Put e d = absurd (cc)
-  doing_named Get e d = absurd (cc)
+  doing_named (Import path) e d = absurd (cc)
+  doing_named (Export path) e d = absurd (cc)
+  doing_named (Put path) e d = absurd (cc)
+  doing_named (Get path) e d = absurd (cc)
   doing_named Check e d = checked_named trace faults G input output vault keeper ended names d
   doing_named Survey e d = surveyed_named trace faults G input output vault keeper ended names d
 
@@ -364,13 +364,13 @@ module _ {V : Type 0} {K : Type 0} (trace : V → Option (List Call)) (faults : 
   doing_streams (Generate count) d = session_streams input output trace faults G vault keeper ended now (ComesGenerated count input output) (λ script end own es came. reported_quiet input output _ end came.0.1 came.0.0.3) d
   doing_streams Command d =
       session_streams input output trace faults G vault keeper ended now (ComesCommand (joined words) input output) (λ script end own es came. reported_quiet input output _ end came.0.1 came.0.0.2) d
-  doing_streams Import d =
-      session_streams input output trace faults G vault keeper ended now (Imports words input output host) (λ script end own es came. reported_quiet input output _ end came.3.unfailed came.3.told.written) d.0
-  doing_streams Export d =
-      session_streams input output trace faults G vault keeper ended now (Exports words input output host) (λ script end own es came. reported_quiet input output _ end came.2.unfailed came.2.told.written) d.0
-  doing_streams Put d =
-      session_streams input output trace faults G vault keeper ended now (Puts words input output) (λ script end own es came. put_quiet came.0 script input output end own es came.2) d
-  doing_streams Get d =
-      session_streams input output trace faults G vault keeper ended now (Gets words input output) (λ script end own es came. get_quiet came.0 input output end own es came.2) d
+  doing_streams (Import path) d =
+      session_streams input output trace faults G vault keeper ended now (Imports path input output host) (λ script end own es came. reported_quiet input output _ end came.1.unfailed came.1.told.written) d.0
+  doing_streams (Export path) d =
+      session_streams input output trace faults G vault keeper ended now (Exports path input output host) (λ script end own es came. reported_quiet input output _ end came.unfailed came.told.written) d.0
+  doing_streams (Put path) d =
+      session_streams input output trace faults G vault keeper ended now (ComesPut path input output) (λ script. put_quiet path script input output) d
+  doing_streams (Get path) d =
+      session_streams input output trace faults G vault keeper ended now (ComesGet path input output) (λ script. get_quiet path input output) d
   doing_streams Check d = checked_streams input output trace faults G vault keeper ended names d
   doing_streams Survey d = surveyed_streams input output trace faults G vault keeper ended names d

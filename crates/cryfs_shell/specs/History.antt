@@ -3,7 +3,7 @@ use Rattle.std.specs.Prelude.{◌≡◌, ℕ, Bool, true, false, List}
 use Rattle.std.specs.declared.option.Option.{Option}
 use Rattle.std.specs.declared.option.Option.TheVariants.{Some}
 use Rattle.trial_runs.specs.answers.Sessions.{Exchange}
-use Rattle.cryfs_shell.specs.Copies.{Imports, Exports, Puts, Gets}
+use Rattle.cryfs_shell.specs.Copies.{Imports, Exports}
 use Rattle.cryfs_shell.specs.Streams.{Streams}
 use Rattle.fs_model.specs.Instant.{Instant}
 use Rattle.session_laws.specs.Histories.{Run, session, quiet, examined, migrated, before_of, after_of, IsRun}
@@ -13,6 +13,7 @@ use Rattle.trial_runs.specs.line_io.Streams.{Stream}
 use Rattle.trial_runs.specs.session_lines.declared.end.End.{End}
 use Rattle.session_laws.specs.Openings.{HasPassword}
 use Rattle.session_laws.specs.Runs.{Outside}
+use Rattle.copy_runs.specs.copy_file.Coming.{ComesPut, ComesGet}
 use Rattle.copy_runs.specs.shell_runs.Sessions.{ComesShell, ComesGenerated, ComesCommand}
 use Rattle.program_words.specs.declared.form.Form.{Form}
 use Rattle.program_words.specs.declared.form.Form.TheVariants.{Migrate, Shell, Generate, Command, Import, Export, Put, Get, Check}
@@ -24,10 +25,10 @@ abbrev pub Comes : List (List ℕ) → Streams → Option Form → Option (List 
 Comes words s (Some Shell) = ComesShell s.input s.output
 Comes words s (Some (Generate count)) = ComesGenerated count s.input s.output
 Comes words s (Some Command) = ComesCommand (joined words) s.input s.output
-Comes words s (Some Import) = Imports words s.input s.output s.host
-Comes words s (Some Export) = Exports words s.input s.output s.host
-Comes words s (Some Put) = Puts words s.input s.output
-Comes words s (Some Get) = Gets words s.input s.output
+Comes words s (Some (Import path)) = Imports path s.input s.output s.host
+Comes words s (Some (Export path)) = Exports path s.input s.output s.host
+Comes words s (Some (Put path)) = ComesPut path s.input s.output
+Comes words s (Some (Get path)) = ComesGet path s.input s.output
 Comes words s asked = λ script end own es. ⊥
 
 -- a check is bad exactly where the status is a violation; no other form is a check

@@ -17,10 +17,10 @@ abbrev pub is_session : Option Form → Bool
 is_session (Some Shell) = true
 is_session (Some (Generate count)) = true
 is_session (Some Command) = true
-is_session (Some Import) = true
-is_session (Some Export) = true
-is_session (Some Put) = true
-is_session (Some Get) = true
+is_session (Some (Import path)) = true
+is_session (Some (Export path)) = true
+is_session (Some (Put path)) = true
+is_session (Some (Get path)) = true
 is_session _ = false
 
 -- a check is asked
@@ -41,10 +41,10 @@ opens (Some Migrate) = true
 opens (Some Shell) = true
 opens (Some (Generate count)) = true
 opens (Some Command) = true
-opens (Some Import) = true
-opens (Some Export) = true
-opens (Some Put) = true
-opens (Some Get) = true
+opens (Some (Import path)) = true
+opens (Some (Export path)) = true
+opens (Some (Put path)) = true
+opens (Some (Get path)) = true
 opens (Some Check) = true
 opens (Some Survey) = true
 opens _ = false
@@ -65,6 +65,6 @@ draws _ = true
 
 -- the host folder may be called
 abbrev pub copies : Option Form → Bool
-copies (Some Import) = true
-copies (Some Export) = true
+copies (Some (Import path)) = true
+copies (Some (Export path)) = true
 copies _ = false

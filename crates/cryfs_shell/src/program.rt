@@ -10,7 +10,6 @@ ghost use Rattle.session_laws.specs.Runs.{outside_of};
 ghost use Rattle.copy_runs.specs.shell_runs.Sessions.{Session, ComesCommand};
 ghost use Rattle.program_words.specs.Forms.{form_of, joined, IsModest};
 ghost use Rattle.cryfs_shell.specs.Clauses.{IsRefusedRun, NoFalseAlarm, KeepsTree, TellsFaults, StatusSays, Spares};
-ghost use Rattle.cryfs_shell.specs.Copies.{HostSession, Imports, Exports, Puts, Gets};
 ghost use Rattle.cryfs_shell.specs.Doing.{Did, IsCaused};
 ghost use Rattle.cryfs_shell.specs.History.{HasHistory};
 ghost use Rattle.cryfs_shell.specs.Hosts.{host_of};
@@ -26,7 +25,7 @@ use copy_runs::{
 };
 use fs_model::Moment;
 use outside::{Keeper, Listing, Sink, Source, Vault};
-use program_words::{CreateOptions, Form, copy_path, joined, read_form};
+use program_words::{CreateOptions, Form, joined, read_form};
 use rand_core::Rng;
 use run_status::{Ended, Status, Storage};
 use std::alloc::Global;
@@ -90,13 +89,13 @@ pub fn run<I: Source, O: Sink, V: Vault + Listing, K: Keeper, R: Rng, F: Folder>
         Ok(Some(form)) => {
             let asked = FormRequest { form, words, now };
             let storage = Storage { vault, keeper };
-            run_form(alloc, &asked, input, output, storage, chance, host)
+            run_form(alloc, asked, input, output, storage, chance, host)
         }
     }
 }
 
 /// What the words ask for, the words themselves, and the moment.
-#[derive(Clone, Copy)]
+#[derive(Drop)]
 struct FormRequest<'a> {
     form: Form,
     words: &'a [String],
@@ -106,33 +105,34 @@ struct FormRequest<'a> {
 /// Runs what the words ask for.
 fn run_form<I: Source, O: Sink, V: Vault + Listing, K: Keeper, R: Rng, F: Folder>(
     alloc: Global,
-    asked: &FormRequest<'_>,
+    asked: FormRequest<'_>,
     input: &mut I,
     output: &mut O,
     storage: Storage<V, K>,
     chance: &mut R,
     host: &mut F,
 ) -> Ended<V, K>
-    requires { IsModest asked.now.form }
-    ensures did { Did V.trace V.faults V.names K.Keeper (map string_bytes asked.entry.now.words.now) asked.entry.now.now
+    requires { IsModest asked.entry.form }
+    ensures did { Did V.trace V.faults V.names K.Keeper (map string_bytes asked.entry.words.now) asked.entry.now
         (streams_of (stream_of I.rest I.faults input.old input.new) (stream_of O.written O.faults output.old output.new)
         (host_of F.tree F.faults host.old host.new) (R.stream chance.old) (R.stream chance.new))
-        storage.vault storage.keeper result (Some asked.entry.now.form) }
+        storage.vault storage.keeper result (Some asked.entry.form) }
     ensures caused { IsCaused (outside_of V.trace V.faults K.Keeper storage.vault storage.keeper)
-        (outside_of V.trace V.faults K.Keeper result.vault result.keeper) result.status asked.entry.now.form }
-    ensures drawn { seals (Some asked.entry.now.form) ≡ true → DrawsAs (is_migration (Some asked.entry.now.form)) (R.stream chance.old) (R.stream chance.new)
+        (outside_of V.trace V.faults K.Keeper result.vault result.keeper) result.status asked.entry.form }
+    ensures drawn { seals (Some asked.entry.form) ≡ true → DrawsAs (is_migration (Some asked.entry.form)) (R.stream chance.old) (R.stream chance.new)
         (outside_of V.trace V.faults K.Keeper storage.vault storage.keeper) (outside_of V.trace V.faults K.Keeper result.vault result.keeper) }
-    ensures undrawn { draws (Some asked.entry.now.form) ≡ false → R.stream chance.new ≡ R.stream chance.old }
-    ensures unhosted { copies (Some asked.entry.now.form) ≡ false → host.new ≡ host.old }
+    ensures undrawn { draws (Some asked.entry.form) ≡ false → R.stream chance.new ≡ R.stream chance.old }
+    ensures unhosted { copies (Some asked.entry.form) ≡ false → host.new ≡ host.old }
     ensures grows { NoneFalls (streams_of (stream_of I.rest I.faults input.old input.new)
         (stream_of O.written O.faults output.old output.new)
         (host_of F.tree F.faults host.old host.new) (R.stream chance.old) (R.stream chance.new)) }
 {
-    match asked.form {
+    let FormRequest { form, words, now } = asked;
+    match form {
         Form::Trial => {
             let Storage { vault, keeper } = storage;
             Ended {
-                status: try_lines(alloc, asked.now, input, output),
+                status: try_lines(alloc, now, input, output),
                 vault,
                 keeper,
             }
@@ -140,7 +140,7 @@ fn run_form<I: Source, O: Sink, V: Vault + Listing, K: Keeper, R: Rng, F: Folder
         Form::TrialGenerate(count) => {
             let Storage { vault, keeper } = storage;
             Ended {
-                status: try_generated(alloc, asked.now, count, output),
+                status: try_generated(alloc, now, count, output),
                 vault,
                 keeper,
             }
@@ -151,15 +151,26 @@ fn run_form<I: Source, O: Sink, V: Vault + Listing, K: Keeper, R: Rng, F: Folder
         Form::Info => run_info(alloc, input, output, storage),
         Form::Passwd => run_passwd(alloc, input, output, storage, chance),
         Form::Migrate => run_migrate(alloc, input, output, storage, chance),
-        Form::Shell => run_shell(alloc, asked.now, input, output, storage, chance),
-        Form::Generate(count) => {
-            run_generate(alloc, asked.now, count, input, output, storage, chance)
+        Form::Shell => run_shell(alloc, now, input, output, storage, chance),
+        Form::Generate(count) => { run_generate(alloc, now, count, input, output, storage, chance) }
+        Form::Command => run_line(
+            alloc,
+            Request { words, now },
+            input,
+            output,
+            storage,
+            chance,
+        ),
+        Form::Import(path) => {
+            let request = CopyRequest { path: &path, now };
+            run_import(alloc, request, host, input, output, storage, chance)
         }
-        Form::Command => run_line(alloc, asked, input, output, storage, chance),
-        Form::Import => import_words(alloc, asked, input, output, storage, chance, host),
-        Form::Export => export_words(alloc, asked, input, output, storage, chance, host),
-        Form::Put => put_words(alloc, asked, input, output, storage, chance),
-        Form::Get => get_words(alloc, asked, input, output, storage, chance),
+        Form::Export(path) => {
+            let request = CopyRequest { path: &path, now };
+            run_export(alloc, request, host, input, output, storage, chance)
+        }
+        Form::Put(path) => run_put(alloc, now, path, input, output, storage, chance),
+        Form::Get(path) => run_get(alloc, now, &path, input, output, storage, chance),
         Form::Check => run_check(alloc, input, output, storage),
         Form::Survey => run_survey(alloc, input, output, storage),
     }
@@ -169,14 +180,14 @@ fn run_form<I: Source, O: Sink, V: Vault + Listing, K: Keeper, R: Rng, F: Folder
 #[tactic(auto, using(crate::proofs::Drawn::undone))]
 fn run_line<I: Source, O: Sink, V: Vault, K: Keeper, R: Rng>(
     alloc: Global,
-    asked: &FormRequest<'_>,
+    request: Request<'_>,
     input: &mut I,
     output: &mut O,
     storage: Storage<V, K>,
     chance: &mut R,
 ) -> Ended<V, K>
-    ensures session { Session V.trace V.faults K.Keeper asked.entry.now.now
-        (ComesCommand (joined (map string_bytes asked.entry.now.words.now)) (stream_of I.rest I.faults input.old input.new)
+    ensures session { Session V.trace V.faults K.Keeper request.entry.now
+        (ComesCommand (joined (map string_bytes request.entry.words.now)) (stream_of I.rest I.faults input.old input.new)
         (stream_of O.written O.faults output.old output.new))
         (stream_of I.rest I.faults input.old input.new) (stream_of O.written O.faults output.old output.new)
         storage.vault storage.keeper result }
@@ -185,157 +196,9 @@ fn run_line<I: Source, O: Sink, V: Vault, K: Keeper, R: Rng>(
     ensures input_grows { I.faults input.old ≤ I.faults input.new }
     ensures output_grows { O.faults output.old ≤ O.faults output.new }
 {
-    match joined(alloc, asked.words) {
-        Ok(line) => run_command(alloc, asked.now, &line, input, output, storage, chance),
+    match joined(alloc, request.words) {
+        Ok(line) => run_command(alloc, request.now, &line, input, output, storage, chance),
         Err(Memory) => {
-            let Storage { vault, keeper } = storage;
-            Ended {
-                status: Status::Memory,
-                vault,
-                keeper,
-            }
-        }
-    }
-}
-
-/// An import to the path that the words say.
-#[tactic(auto, using(crate::proofs::Drawn::undone))]
-fn import_words<I: Source, O: Sink, V: Vault, K: Keeper, R: Rng, F: Folder>(
-    alloc: Global,
-    asked: &FormRequest<'_>,
-    input: &mut I,
-    output: &mut O,
-    storage: Storage<V, K>,
-    chance: &mut R,
-    host: &mut F,
-) -> Ended<V, K>
-    ensures session { HostSession V.trace V.faults K.Keeper asked.entry.now.now
-        (Imports (map string_bytes asked.entry.now.words.now) (stream_of I.rest I.faults input.old input.new) (stream_of O.written O.faults output.old output.new)
-        (host_of F.tree F.faults host.old host.new))
-        (stream_of I.rest I.faults input.old input.new) (stream_of O.written O.faults output.old output.new)
-        (host_of F.tree F.faults host.old host.new) storage.vault storage.keeper result }
-    ensures drawn { DrawsVectors (R.stream chance.old) (R.stream chance.new)
-        (outside_of V.trace V.faults K.Keeper storage.vault storage.keeper) (outside_of V.trace V.faults K.Keeper result.vault result.keeper) }
-    ensures input_grows { I.faults input.old ≤ I.faults input.new }
-    ensures output_grows { O.faults output.old ≤ O.faults output.new }
-    ensures host_grows { F.faults host.old ≤ F.faults host.new }
-{
-    match copy_path(alloc, asked.words) {
-        Ok(Some(path)) => {
-            let request = CopyRequest {
-                path: &path,
-                now: asked.now,
-            };
-            run_import(alloc, request, host, input, output, storage, chance)
-        }
-        Ok(None) | Err(Memory) => {
-            let Storage { vault, keeper } = storage;
-            Ended {
-                status: Status::Memory,
-                vault,
-                keeper,
-            }
-        }
-    }
-}
-
-/// An export of the path that the words say.
-#[tactic(auto, using(crate::proofs::Drawn::undone))]
-fn export_words<I: Source, O: Sink, V: Vault, K: Keeper, R: Rng, F: Folder>(
-    alloc: Global,
-    asked: &FormRequest<'_>,
-    input: &mut I,
-    output: &mut O,
-    storage: Storage<V, K>,
-    chance: &mut R,
-    host: &mut F,
-) -> Ended<V, K>
-    ensures session { HostSession V.trace V.faults K.Keeper asked.entry.now.now
-        (Exports (map string_bytes asked.entry.now.words.now) (stream_of I.rest I.faults input.old input.new) (stream_of O.written O.faults output.old output.new)
-        (host_of F.tree F.faults host.old host.new))
-        (stream_of I.rest I.faults input.old input.new) (stream_of O.written O.faults output.old output.new)
-        (host_of F.tree F.faults host.old host.new) storage.vault storage.keeper result }
-    ensures drawn { DrawsVectors (R.stream chance.old) (R.stream chance.new)
-        (outside_of V.trace V.faults K.Keeper storage.vault storage.keeper) (outside_of V.trace V.faults K.Keeper result.vault result.keeper) }
-    ensures input_grows { I.faults input.old ≤ I.faults input.new }
-    ensures output_grows { O.faults output.old ≤ O.faults output.new }
-    ensures host_grows { F.faults host.old ≤ F.faults host.new }
-{
-    match copy_path(alloc, asked.words) {
-        Ok(Some(path)) => {
-            let request = CopyRequest {
-                path: &path,
-                now: asked.now,
-            };
-            run_export(alloc, request, host, input, output, storage, chance)
-        }
-        Ok(None) | Err(Memory) => {
-            let Storage { vault, keeper } = storage;
-            Ended {
-                status: Status::Memory,
-                vault,
-                keeper,
-            }
-        }
-    }
-}
-
-/// A new file at the path that the words say.
-#[tactic(auto, using(crate::proofs::Drawn::undone))]
-fn put_words<I: Source, O: Sink, V: Vault, K: Keeper, R: Rng>(
-    alloc: Global,
-    asked: &FormRequest<'_>,
-    input: &mut I,
-    output: &mut O,
-    storage: Storage<V, K>,
-    chance: &mut R,
-) -> Ended<V, K>
-    ensures session { Session V.trace V.faults K.Keeper asked.entry.now.now
-        (Puts (map string_bytes asked.entry.now.words.now) (stream_of I.rest I.faults input.old input.new)
-        (stream_of O.written O.faults output.old output.new))
-        (stream_of I.rest I.faults input.old input.new) (stream_of O.written O.faults output.old output.new)
-        storage.vault storage.keeper result }
-    ensures drawn { DrawsVectors (R.stream chance.old) (R.stream chance.new)
-        (outside_of V.trace V.faults K.Keeper storage.vault storage.keeper) (outside_of V.trace V.faults K.Keeper result.vault result.keeper) }
-    ensures input_grows { I.faults input.old ≤ I.faults input.new }
-    ensures output_grows { O.faults output.old ≤ O.faults output.new }
-{
-    match copy_path(alloc, asked.words) {
-        Ok(Some(path)) => run_put(alloc, asked.now, path, input, output, storage, chance),
-        Ok(None) | Err(Memory) => {
-            let Storage { vault, keeper } = storage;
-            Ended {
-                status: Status::Memory,
-                vault,
-                keeper,
-            }
-        }
-    }
-}
-
-/// The file at the path that the words say.
-#[tactic(auto, using(crate::proofs::Drawn::undone))]
-fn get_words<I: Source, O: Sink, V: Vault, K: Keeper, R: Rng>(
-    alloc: Global,
-    asked: &FormRequest<'_>,
-    input: &mut I,
-    output: &mut O,
-    storage: Storage<V, K>,
-    chance: &mut R,
-) -> Ended<V, K>
-    ensures session { Session V.trace V.faults K.Keeper asked.entry.now.now
-        (Gets (map string_bytes asked.entry.now.words.now) (stream_of I.rest I.faults input.old input.new)
-        (stream_of O.written O.faults output.old output.new))
-        (stream_of I.rest I.faults input.old input.new) (stream_of O.written O.faults output.old output.new)
-        storage.vault storage.keeper result }
-    ensures drawn { DrawsVectors (R.stream chance.old) (R.stream chance.new)
-        (outside_of V.trace V.faults K.Keeper storage.vault storage.keeper) (outside_of V.trace V.faults K.Keeper result.vault result.keeper) }
-    ensures input_grows { I.faults input.old ≤ I.faults input.new }
-    ensures output_grows { O.faults output.old ≤ O.faults output.new }
-{
-    match copy_path(alloc, asked.words) {
-        Ok(Some(path)) => run_get(alloc, asked.now, &path, input, output, storage, chance),
-        Ok(None) | Err(Memory) => {
             let Storage { vault, keeper } = storage;
             Ended {
                 status: Status::Memory,

@@ -161,10 +161,10 @@ module _ {V : Type 0} {K : Type 0} (trace : V → Option (List Call)) (faults : 
   did_run (Some Shell) e d = session_ran (Some Shell) d
   did_run (Some (Generate count)) e d = session_ran (Some (Generate count)) d
   did_run (Some Command) e d = session_ran (Some Command) d
-  did_run (Some Import) e d = session_ran (Some Import) d.0
-  did_run (Some Export) e d = session_ran (Some Export) d.0
-  did_run (Some Put) e d = session_ran (Some Put) d
-  did_run (Some Get) e d = session_ran (Some Get) d
+  did_run (Some (Import path)) e d = session_ran (Some (Import path)) d.0
+  did_run (Some (Export path)) e d = session_ran (Some (Export path)) d.0
+  did_run (Some (Put path)) e d = session_ran (Some (Put path)) d
+  did_run (Some (Get path)) e d = session_ran (Some (Get path)) d
   did_run (Some Check) e d = checked_ran d
   did_run (Some Survey) e (inl u) = unread_ran (Some Survey) (PasswordUnread call.streams.input) (one_unread call.streams.input) u
   did_run (Some Survey) e (inr (password, script, has, unfailed, inl ((error, u), unwritten))) = unopened_ran (Some Survey) password script has.is_next error u unwritten
@@ -217,10 +217,10 @@ module _ {V : Type 0} {K : Type 0} (trace : V → Option (List Call)) (faults : 
   did_stay (Some Shell) e there d = absurd (cc)
   did_stay (Some (Generate count)) e there d = absurd (cc)
   did_stay (Some Command) e there d = absurd (cc)
-  did_stay (Some Import) e there d = absurd (cc)
-  did_stay (Some Export) e there d = absurd (cc)
-  did_stay (Some Put) e there d = absurd (cc)
-  did_stay (Some Get) e there d = absurd (cc)
+  did_stay (Some (Import path)) e there d = absurd (cc)
+  did_stay (Some (Export path)) e there d = absurd (cc)
+  did_stay (Some (Put path)) e there d = absurd (cc)
+  did_stay (Some (Get path)) e there d = absurd (cc)
   did_stay (Some Check) e there d = absurd (cc)
   did_stay (Some Survey) e there d = absurd (cc)
 

@@ -93,10 +93,10 @@ module _ {V : Type 0} {K : Type 0} (trace : V → Option (List Call)) (faults : 
     did (Some Shell) e d = session (ComesShell input Output) shell_told d
     did (Some (Generate count)) e d = absurd (cc)
     did (Some Command) e d = session (ComesCommand (joined words) input Output) (command_told (joined words)) d
-    did (Some Import) e d = absurd (cc)
-    did (Some Export) e d = absurd (cc)
-    did (Some Put) e d = absurd (cc)
-    did (Some Get) e d = absurd (cc)
+    did (Some (Import path)) e d = absurd (cc)
+    did (Some (Export path)) e d = absurd (cc)
+    did (Some (Put path)) e d = absurd (cc)
+    did (Some (Get path)) e d = absurd (cc)
     did (Some Check) e d = absurd (cc)
     did (Some Survey) e d = absurd (cc)
     did (Some Migrate) e d = absurd (cc)

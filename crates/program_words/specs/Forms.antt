@@ -12,6 +12,8 @@ use Rattle.fs_model.specs.declared.error.FsError.{FsError}
 use Rattle.script_text.specs.Grammar.{verb_of, command_of}
 use Rattle.script_text.specs.Numbers.{number_of, below}
 use Rattle.program_words.specs.CreateOptions.{options_of}
+use Rattle.program_words.specs.declared.copies.CopyKind.{CopyKind}
+use Rattle.program_words.specs.declared.copies.CopyKind.TheVariants as kind
 use Rattle.program_words.specs.declared.form.Form.{Form}
 use Rattle.program_words.specs.declared.form.Form.TheVariants.{Trial, TrialGenerate, Create, Info, Passwd, Migrate, Shell, Generate, Command, Import, Export, Put, Get, Check, Survey}
 use Rattle.program_words.specs.declared.words.TheConstants.{MAX_GENERATE}
@@ -54,25 +56,32 @@ unfoldable pub path_in : List ℕ → Option (List (List ℕ))
 path_in word = listed (command_of (codes "ls " ++ word))
 
 -- the copy that a word asks for
-abbrev pub copy_word : List ℕ → Option Form
-copy_word word =
-    cond (bytes_eq word (codes "import")) (Some Import)
-    (cond (bytes_eq word (codes "export")) (Some Export)
-    (cond (bytes_eq word (codes "put")) (Some Put)
-    (cond (bytes_eq word (codes "get")) (Some Get) None)))
+abbrev pub copy_kind : List ℕ → Option CopyKind
+copy_kind word =
+    cond (bytes_eq word (codes "import")) (Some kind.Import)
+    (cond (bytes_eq word (codes "export")) (Some kind.Export)
+    (cond (bytes_eq word (codes "put")) (Some kind.Put)
+    (cond (bytes_eq word (codes "get")) (Some kind.Get) None)))
+
+-- such a copy, to or from this path
+abbrev pub copy_at : CopyKind → List (List ℕ) → Form
+copy_at kind.Import path = Import path
+copy_at kind.Export path = Export path
+copy_at kind.Put path = Put path
+copy_at kind.Get path = Get path
 
 -- the path that a copy goes to or comes from: the one word after the first
 abbrev pub copy_path : List (List ℕ) → Option (List (List ℕ))
 copy_path (first ∷ word ∷ []) = path_in word
 copy_path _ = None
 
--- a copy, where the words say its path
-abbrev pub copied : Form → List (List ℕ) → Option Form
-copied copy words = cond (is_some (copy_path words)) (Some copy) None
+-- such a copy, where the words say its path
+abbrev pub copied : CopyKind → List (List ℕ) → Option Form
+copied kind words = option_map (copy_at kind) (copy_path words)
 
 -- the words are those of a copy, or of another form
-abbrev pub copy_or_other : Option Form → List ℕ → List (List ℕ) → Option Form
-copy_or_other (Some copy) first words = copied copy words
+abbrev pub copy_or_other : Option CopyKind → List ℕ → List (List ℕ) → Option Form
+copy_or_other (Some kind) first words = copied kind words
 copy_or_other None first words = other_form first words
 
 -- the first word is `create`
@@ -87,7 +96,7 @@ is_pair _ = false
 -- the first of two words asks for a copy
 abbrev pub is_copy : List (List ℕ) → Bool
 is_copy [] = false
-is_copy (first ∷ words) = is_some (copy_word first) && is_pair (first ∷ words)
+is_copy (first ∷ words) = is_some (copy_kind first) && is_pair (first ∷ words)
 
 -- memory may be refused while the words are read
 abbrev pub takes_memory : List (List ℕ) → Bool
@@ -96,7 +105,7 @@ takes_memory words = is_create words || is_copy words
 -- what the words ask for: `create` and its options, a copy and its path, a line of a script, or another form
 unfoldable pub form_of : List (List ℕ) → Option Form
 form_of [] = None
-form_of (first ∷ words) = cond (is_create (first ∷ words)) (option_map Create (options_of words)) (copy_or_other (copy_word first) first (first ∷ words))
+form_of (first ∷ words) = cond (is_create (first ∷ words)) (option_map Create (options_of words)) (copy_or_other (copy_kind first) first (first ∷ words))
 
 -- the line that the words are: one after another, with a space between them
 abbrev pub joined : List (List ℕ) → List ℕ

@@ -1,7 +1,7 @@
 // The words of copies.
 ghost use Rattle.std.specs.Prelude.{◌≡◌, true, map, IfOk, OnErr};
 ghost use Rattle.std.specs.String.{string_bytes};
-ghost use Rattle.program_words.specs.Forms.{copy_word, copy_path, is_pair, path_in};
+ghost use Rattle.program_words.specs.Forms.{copy_kind, copy_at, copy_path, is_pair, path_in};
 
 use crate::form::Form;
 use block_id::Memory;
@@ -9,18 +9,41 @@ use fs_model::{Command, Path};
 use script_text::{LineError, parse_line};
 use std::alloc::Global;
 
+/// A copy, less its path.
+#[derive(Clone, Copy)]
+pub(crate) enum CopyKind {
+    Import,
+    Export,
+    Put,
+    Get,
+}
+
+impl CopyKind {
+    /// Such a copy, to or from this path.
+    pub(crate) fn at(self, path: Path) -> Form
+        ensures { result ≡ copy_at self path }
+    {
+        match self {
+            CopyKind::Import => Form::Import(path),
+            CopyKind::Export => Form::Export(path),
+            CopyKind::Put => Form::Put(path),
+            CopyKind::Get => Form::Get(path),
+        }
+    }
+}
+
 /// The copy that a word asks for: `import`, `export`, `put` or `get`.
-pub(crate) fn copy_word(word: &str) -> Option<Form>
-    ensures { result ≡ copy_word word.now }
+pub(crate) fn copy_kind(word: &str) -> Option<CopyKind>
+    ensures { result ≡ copy_kind word.now }
 {
     if word == "import" {
-        Some(Form::Import)
+        Some(CopyKind::Import)
     } else if word == "export" {
-        Some(Form::Export)
+        Some(CopyKind::Export)
     } else if word == "put" {
-        Some(Form::Put)
+        Some(CopyKind::Put)
     } else if word == "get" {
-        Some(Form::Get)
+        Some(CopyKind::Get)
     } else {
         None
     }
@@ -28,7 +51,7 @@ pub(crate) fn copy_word(word: &str) -> Option<Form>
 
 /// The path that a copy goes to or comes from: it is the one word after the first. None where that isn't so. Memory
 /// comes only where there are two words.
-pub fn copy_path(alloc: Global, words: &[String]) -> Result<Option<Path>, Memory>
+pub(crate) fn copy_path(alloc: Global, words: &[String]) -> Result<Option<Path>, Memory>
     ensures value { IfOk result (λ path. path ≡ copy_path (map string_bytes words.now)) }
     ensures memory { OnErr result (is_pair (map string_bytes words.now) ≡ true) }
 {

@@ -1,9 +1,10 @@
 // What the program can be asked for.
 
 use crate::create_options::CreateOptions;
+use fs_model::Path;
 
 /// What the words ask for.
-#[derive(Clone, Copy)]
+#[derive(Drop)]
 pub enum Form {
     /// The lines of the input on a new plain tree.
     Trial,
@@ -23,14 +24,14 @@ pub enum Form {
     Generate(u64),
     /// A session of the one line that the words are.
     Command,
-    /// A folder of the host, copied into the file system.
-    Import,
-    /// A directory, copied into a folder of the host.
-    Export,
-    /// A new file of the bytes of the input.
-    Put,
-    /// The bytes of a file, as the output.
-    Get,
+    /// A folder of the host, copied into the file system below this path.
+    Import(Path),
+    /// What stands below this path, copied into a folder of the host.
+    Export(Path),
+    /// A new file at this path, of the bytes of the input.
+    Put(Path),
+    /// The bytes of the file at this path, as the output.
+    Get(Path),
     /// Whether the whole file system is sound, and which path owns each block.
     Check,
     /// The same, and each block that is refused where it isn't; what is kept is never marked.

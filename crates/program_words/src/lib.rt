@@ -8,7 +8,6 @@ mod form;
 mod line;
 mod words;
 
-pub use copies::copy_path;
 pub use create_options::{CreateOptions, parse_create_options};
 pub use form::Form;
 pub use line::joined;

@@ -4,7 +4,7 @@ ghost use Rattle.std.specs.String.{string_bytes};
 ghost use Rattle.script_text.specs.Grammar.{verb_of};
 ghost use Rattle.program_words.specs.Forms.{count_of, single_form, plain_form, copied, is_pair, other_form, form_of, takes_memory, IsModest};
 
-use crate::copies::{copy_path, copy_word};
+use crate::copies::{CopyKind, copy_kind, copy_path};
 use crate::create_options::parse_create_options;
 use crate::form::Form;
 use block_id::Memory;
@@ -105,8 +105,8 @@ pub fn read_form(alloc: Global, words: &[String]) -> Result<Option<Form>, Memory
         return Ok(None);
     };
     if first.as_str() != "create" {
-        return match copy_word(first.as_str()) {
-            Some(copy) => read_copy(alloc, copy, words),
+        return match copy_kind(first.as_str()) {
+            Some(kind) => read_copy(alloc, kind, words),
             None => Ok(read_other_form(first.as_str(), words)),
         };
     }
@@ -116,13 +116,14 @@ pub fn read_form(alloc: Global, words: &[String]) -> Result<Option<Form>, Memory
     }
 }
 
-/// A copy, where the words say its path.
-fn read_copy(alloc: Global, copy: Form, words: &[String]) -> Result<Option<Form>, Memory>
-    ensures value { IfOk result (λ form. form ≡ copied copy (map string_bytes words.now)) }
+/// Such a copy, where the words say its path.
+fn read_copy(alloc: Global, kind: CopyKind, words: &[String]) -> Result<Option<Form>, Memory>
+    ensures value { IfOk result (λ form. form ≡ copied kind (map string_bytes words.now)) }
+    ensures most { IfOk result (λ form. IfSome form (λ form. IsModest form)) }
     ensures memory { OnErr result (is_pair (map string_bytes words.now) ≡ true) }
 {
     match copy_path(alloc, words)? {
-        Some(_) => Ok(Some(copy)),
+        Some(path) => Ok(Some(kind.at(path))),
         None => Ok(None),
     }
 }

@@ -11,6 +11,6 @@ returns-in-Ok-clause-session g c =
     let r = c.run_command in
     let input = stream_of g.I.Source.rest g.I.Source.faults c.args.input.now r.new.input in
     let output = stream_of g.O.Sink.written g.O.Sink.faults c.args.output.now r.new.output in
-    session_as g.V.Vault.trace g.V.Vault.faults g.K.Keeper c.args.asked.now.now input output c.args.storage.vault c.args.storage.keeper r.result
-    (ComesCommand c.deref.result.now input output) (ComesCommand (joined (map string_bytes c.args.asked.now.words.now)) input output)
+    session_as g.V.Vault.trace g.V.Vault.faults g.K.Keeper c.args.request.now input output c.args.storage.vault c.args.storage.keeper r.result
+    (ComesCommand c.deref.result.now input output) (ComesCommand (joined (map string_bytes c.args.request.words.now)) input output)
     (λ script end own es. subst (λ (line : List ℕ). ComesCommand line input output script end own es) (c.deref.ensures.value ∙ c.in-Ok.ensures)) r.ensures.session
