@@ -15,7 +15,7 @@ use Rattle.copy_file.specs.copy_sessions.declared.way.Way.TheVariants.{In}
 use Rattle.tree_copy.specs.copy_row.declared.stop.Stop.{Stop}
 use Rattle.tree_copy.specs.copy_row.declared.stop.Stop.TheVariants as stop
 use Rattle.copy_file.specs.Coming.{IsPutTold, IsGetEnd}
-use Rattle.copy_runs.proofs.Serving.{is_own, mild_stop}
+use Rattle.copy_runs.proofs.Owning.{is_own, mild_stop}
 
 pub put_own : (put : Result Totals Stop) (path : HostPath) (kept : Option Answer) (output : Stream) (end : End) (own : Status) → IsPutTold put path kept output end own → IsOwn own
 put_own (Ok totals) path kept output end own told = is_own In (Ok totals) kept output end own told

@@ -6,23 +6,23 @@ ghost use Rattle.copy_file.specs.answers.Sessions.{Exchange};
 ghost use Rattle.copy_file.specs.session_lines.Driven.{IsUnfailed};
 ghost use Rattle.shell_runs.specs.mount.Mounts.{IsReady};
 ghost use Rattle.shell_runs.specs.run_frame.Statuses.{IsOwn};
-ghost use Rattle.shell_runs.specs.session_laws.Drawing.{DrawsVectors};
-ghost use Rattle.shell_runs.specs.session_laws.Runs.{outside_of};
 ghost use Rattle.shell_runs.specs.Mounting.{mounted_hosting};
-ghost use Rattle.shell_runs.specs.Sessions.{Session};
-ghost use Rattle.copy_file.specs.Coming.{ComesGet, IsGetSession};
+ghost use Rattle.copy_file.specs.Coming.{IsGetSession};
 ghost use Rattle.copy_runs.specs.Asking.{IsFresh};
+ghost use Rattle.copy_runs.specs.Copies.{get_manner};
 
 use crate::asker::MountAsker;
+use block_id::Memory;
+use copy_file::line_io::LineReader;
 use copy_file::session_lines::End;
 use copy_file::{get_end, get_file};
 use fs_model::{Moment, Path};
 use outside::{Keeper, Sink, Source, Vault};
 use rand_core::Rng;
-use run_status::{Ended, Status, Storage};
-use shell_runs::run_frame::{Beginning, begin};
-use shell_runs::{Mounted, close, open};
+use run_status::Status;
+use shell_runs::{Answered, Asks, Mounted};
 use std::alloc::Global;
+use tree_copy::host_folder::Folder;
 
 /// Writes the bytes of the file at this path, and says how that ended.
 fn get_told<O: Sink, V: Vault, K: Keeper, R: Rng>(
@@ -43,60 +43,46 @@ fn get_told<O: Sink, V: Vault, K: Keeper, R: Rng>(
     get_end(got, &asker.kept)
 }
 
-/// Opens the file system under the password line of the input, writes the bytes of the file at this path and nothing else,
-/// and closes it.
-pub fn run_get<I: Source, O: Sink, V: Vault, K: Keeper, R: Rng>(
-    alloc: Global,
-    now: Moment,
-    from: &Path,
-    input: &mut I,
-    output: &mut O,
-    storage: Storage<V, K>,
-    chance: &mut R,
-) -> Ended<V, K>
-    ensures session { Session V.trace V.faults K.Keeper now
-        (ComesGet from.now (stream_of I.rest I.faults input.old input.new) (stream_of O.written O.faults output.old output.new))
-        (stream_of I.rest I.faults input.old input.new) (stream_of O.written O.faults output.old output.new) storage.vault storage.keeper result }
-    ensures drawn { DrawsVectors (R.stream chance.old) (R.stream chance.new)
-        (outside_of V.trace V.faults K.Keeper storage.vault storage.keeper) (outside_of V.trace V.faults K.Keeper result.vault result.keeper) }
-    ensures input_grows { I.faults input.old ≤ I.faults input.new }
-    ensures output_grows { O.faults output.old ≤ O.faults output.new }
-{
-    let Storage { vault, keeper } = storage;
-    let Beginning {
-        password,
-        reader: _,
-        text: _,
-    } = match begin(alloc, input) {
-        Ok(beginning) => beginning,
-        Err(status) => {
-            return Ended {
-                status,
-                vault,
-                keeper,
-            };
-        }
-    };
-    let mount = match open(alloc, vault, keeper, &password) {
-        Ok(mount) => mount,
-        Err(ended) => return ended,
-    };
-    let mut asker = MountAsker {
-        mounted: Mounted { mount, chance },
-        now,
-        kept: None,
-        stopped: 0,
-    };
-    let (end, own) = get_told(alloc, &mut asker, from, output);
-    let MountAsker {
-        mounted,
-        now: _,
-        kept: _kept,
-        stopped: _,
-    } = asker;
-    let Mounted {
-        mount,
-        chance: _chance,
-    } = mounted;
-    close(alloc, mount, end, own)
+/// The bytes of the file at this path, at one moment, and nothing else.
+#[derive(Drop)]
+pub struct Get {
+    pub path: Path,
+    pub now: Moment,
+}
+
+impl Asks for Get {
+    ghost manner = { get_manner };
+
+    type Text = ();
+
+    fn text(alloc: Global) -> Result<(), Memory> {
+        Ok(())
+    }
+
+    fn ask<'a, I: Source, O: Sink, F: Folder, V: Vault, K: Keeper, R: Rng>(
+        self,
+        alloc: Global,
+        mounted: Mounted<'a, V, K, R>,
+        reader: &mut LineReader,
+        text: &mut (),
+        input: &mut I,
+        output: &mut O,
+        host: &mut F,
+    ) -> Answered<'a, V, K, R> {
+        let Self { path, now } = self;
+        let mut asker = MountAsker {
+            mounted,
+            now,
+            kept: None,
+            stopped: 0,
+        };
+        let (end, own) = get_told(alloc, &mut asker, &path, output);
+        let MountAsker {
+            mounted,
+            now: _,
+            kept: _kept,
+            stopped: _,
+        } = asker;
+        Answered { mounted, end, own }
+    }
 }

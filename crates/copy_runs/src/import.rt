@@ -1,28 +1,26 @@
 // Imports under the password line of the input.
-ghost use Rattle.std.specs.Prelude.{◌≡◌, ◌⊎◌, ◌≤◌, List};
+ghost use Rattle.std.specs.Prelude.{◌≡◌, ◌≤◌, List};
 ghost use Rattle.copy_file.specs.line_io.Streams.{stream_of, Stream};
 ghost use Rattle.copy_file.specs.answers.Hosts.{Ran};
 ghost use Rattle.copy_file.specs.answers.Sessions.{Exchange};
 ghost use Rattle.copy_file.specs.session_lines.Driven.{IsUnfailed};
 ghost use Rattle.shell_runs.specs.mount.Mounts.{IsReady};
 ghost use Rattle.shell_runs.specs.run_frame.Statuses.{IsOwn};
-ghost use Rattle.shell_runs.specs.session_laws.Drawing.{DrawsVectors};
-ghost use Rattle.shell_runs.specs.session_laws.Runs.{outside_of};
 ghost use Rattle.shell_runs.specs.Mounting.{mounted_hosting};
-ghost use Rattle.shell_runs.specs.Sessions.{Session, WasServed};
-ghost use Rattle.copy_file.specs.copy_sessions.Coming.{ComesImport, IsImportSession};
+ghost use Rattle.copy_file.specs.copy_sessions.Coming.{IsImportSession};
 ghost use Rattle.copy_runs.specs.Asking.{IsFresh};
+ghost use Rattle.copy_runs.specs.Copies.{import_manner};
 
 use crate::asker::MountAsker;
-use crate::beginning::{CopyBeginning, begin_copy};
-use crate::request::CopyRequest;
+use block_id::Memory;
 use copy_file::copy_sessions::{CopyText, Way, tell_copy};
+use copy_file::line_io::LineReader;
 use copy_file::session_lines::End;
-use fs_model::Path;
+use fs_model::{Moment, Path};
 use outside::{Keeper, Sink, Source, Vault};
 use rand_core::Rng;
-use run_status::{Ended, Status, Storage};
-use shell_runs::{Mounted, close, open};
+use run_status::Status;
+use shell_runs::{Answered, Asks, Mounted};
 use std::alloc::Global;
 use tree_copy::host_folder::Folder;
 use tree_copy::import;
@@ -50,65 +48,46 @@ fn import_told<F: Folder, O: Sink, V: Vault, K: Keeper, R: Rng>(
     tell_copy(text, Way::In, copied, &asker.kept, output)
 }
 
-/// Opens the file system under the password line of the input, imports the folder below the path, prints how that
-/// ended, and closes it.
-pub fn run_import<F: Folder, I: Source, O: Sink, V: Vault, K: Keeper, R: Rng>(
-    alloc: Global,
-    request: CopyRequest<'_>,
-    host: &mut F,
-    input: &mut I,
-    output: &mut O,
-    storage: Storage<V, K>,
-    chance: &mut R,
-) -> Ended<V, K>
-    ensures session { Session V.trace V.faults K.Keeper request.entry.now
-        (ComesImport (F.tree host.old) (F.faults host.old) (F.faults host.new) request.entry.path.now (stream_of I.rest I.faults input.old input.new) (stream_of O.written O.faults output.old output.new))
-        (stream_of I.rest I.faults input.old input.new) (stream_of O.written O.faults output.old output.new) storage.vault storage.keeper result }
-    ensures drawn { DrawsVectors (R.stream chance.old) (R.stream chance.new)
-        (outside_of V.trace V.faults K.Keeper storage.vault storage.keeper) (outside_of V.trace V.faults K.Keeper result.vault result.keeper) }
-    ensures unhosted { (host.new ≡ host.old) ⊎ WasServed V.trace V.faults K.Keeper request.entry.now
-        (ComesImport (F.tree host.old) (F.faults host.old) (F.faults host.new) request.entry.path.now (stream_of I.rest I.faults input.old input.new) (stream_of O.written O.faults output.old output.new))
-        (stream_of I.rest I.faults input.old input.new) storage.vault storage.keeper result }
-    ensures same { F.tree host.new ≡ F.tree host.old }
-    ensures host_grows { F.faults host.old ≤ F.faults host.new }
-    ensures input_grows { I.faults input.old ≤ I.faults input.new }
-    ensures output_grows { O.faults output.old ≤ O.faults output.new }
-{
-    let Storage { vault, keeper } = storage;
-    let CopyBeginning {
-        password,
-        reader: _,
-        mut text,
-    } = match begin_copy(alloc, input) {
-        Ok(beginning) => beginning,
-        Err(status) => {
-            return Ended {
-                status,
-                vault,
-                keeper,
-            };
-        }
-    };
-    let mount = match open(alloc, vault, keeper, &password) {
-        Ok(mount) => mount,
-        Err(ended) => return ended,
-    };
-    let mut asker = MountAsker {
-        mounted: Mounted { mount, chance },
-        now: request.now,
-        kept: None,
-        stopped: 0,
-    };
-    let (end, own) = import_told(alloc, &mut asker, request.path, host, &mut text, output);
-    let MountAsker {
-        mounted,
-        now: _,
-        kept: _,
-        stopped: _,
-    } = asker;
-    let Mounted {
-        mount,
-        chance: _chance,
-    } = mounted;
-    close(alloc, mount, end, own)
+/// A folder of the host, copied into the file system below this path, at one moment, and a line that says how that ended.
+#[derive(Drop)]
+pub struct Import {
+    pub path: Path,
+    pub now: Moment,
+}
+
+impl Asks for Import {
+    ghost manner = { import_manner };
+
+    type Text = CopyText;
+
+    fn text(alloc: Global) -> Result<CopyText, Memory> {
+        CopyText::new(alloc)
+    }
+
+    fn ask<'a, I: Source, O: Sink, F: Folder, V: Vault, K: Keeper, R: Rng>(
+        self,
+        alloc: Global,
+        mounted: Mounted<'a, V, K, R>,
+        reader: &mut LineReader,
+        text: &mut CopyText,
+        input: &mut I,
+        output: &mut O,
+        host: &mut F,
+    ) -> Answered<'a, V, K, R> {
+        let Self { path, now } = self;
+        let mut asker = MountAsker {
+            mounted,
+            now,
+            kept: None,
+            stopped: 0,
+        };
+        let (end, own) = import_told(alloc, &mut asker, &path, host, text, output);
+        let MountAsker {
+            mounted,
+            now: _,
+            kept: _,
+            stopped: _,
+        } = asker;
+        Answered { mounted, end, own }
+    }
 }

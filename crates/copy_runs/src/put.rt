@@ -7,15 +7,13 @@ ghost use Rattle.copy_file.specs.answers.Hosts.{Ran};
 ghost use Rattle.copy_file.specs.answers.Sessions.{Exchange};
 ghost use Rattle.shell_runs.specs.mount.Mounts.{IsReady};
 ghost use Rattle.shell_runs.specs.run_frame.Statuses.{IsOwn};
-ghost use Rattle.shell_runs.specs.session_laws.Drawing.{DrawsVectors};
-ghost use Rattle.shell_runs.specs.session_laws.Runs.{outside_of};
 ghost use Rattle.shell_runs.specs.Mounting.{mounted_hosting};
-ghost use Rattle.shell_runs.specs.Sessions.{Session};
-ghost use Rattle.copy_file.specs.Coming.{ComesPut, IsPutSession};
+ghost use Rattle.copy_file.specs.Coming.{IsPutSession};
 ghost use Rattle.copy_runs.specs.Asking.{IsFresh};
+ghost use Rattle.copy_runs.specs.Copies.{put_manner};
 
 use crate::asker::MountAsker;
-use crate::beginning::{CopyBeginning, begin_copy};
+use block_id::Memory;
 use copy_file::copy_sessions::CopyText;
 use copy_file::line_io::LineReader;
 use copy_file::session_lines::End;
@@ -23,9 +21,10 @@ use copy_file::{put_file, tell_put};
 use fs_model::{Moment, Path};
 use outside::{Keeper, Sink, Source, Vault};
 use rand_core::Rng;
-use run_status::{Ended, Status, Storage};
-use shell_runs::{Mounted, close, open};
+use run_status::Status;
+use shell_runs::{Answered, Asks, Mounted};
 use std::alloc::Global;
+use tree_copy::host_folder::Folder;
 
 /// Puts the bytes of the input into a new file at this path, and prints how that ended.
 fn put_told<I: Source, O: Sink, V: Vault, K: Keeper, R: Rng>(
@@ -51,60 +50,46 @@ fn put_told<I: Source, O: Sink, V: Vault, K: Keeper, R: Rng>(
     tell_put(text, put, to, &asker.kept, output)
 }
 
-/// Opens the file system under the password line of the input, puts the bytes that follow it into a new file at this path,
-/// prints how that ended, and closes it.
-pub fn run_put<I: Source, O: Sink, V: Vault, K: Keeper, R: Rng>(
-    alloc: Global,
-    now: Moment,
-    to: Path,
-    input: &mut I,
-    output: &mut O,
-    storage: Storage<V, K>,
-    chance: &mut R,
-) -> Ended<V, K>
-    ensures session { Session V.trace V.faults K.Keeper now
-        (ComesPut to (stream_of I.rest I.faults input.old input.new) (stream_of O.written O.faults output.old output.new))
-        (stream_of I.rest I.faults input.old input.new) (stream_of O.written O.faults output.old output.new) storage.vault storage.keeper result }
-    ensures drawn { DrawsVectors (R.stream chance.old) (R.stream chance.new)
-        (outside_of V.trace V.faults K.Keeper storage.vault storage.keeper) (outside_of V.trace V.faults K.Keeper result.vault result.keeper) }
-    ensures input_grows { I.faults input.old ≤ I.faults input.new }
-    ensures output_grows { O.faults output.old ≤ O.faults output.new }
-{
-    let Storage { vault, keeper } = storage;
-    let CopyBeginning {
-        password,
-        mut reader,
-        mut text,
-    } = match begin_copy(alloc, input) {
-        Ok(beginning) => beginning,
-        Err(status) => {
-            return Ended {
-                status,
-                vault,
-                keeper,
-            };
-        }
-    };
-    let mount = match open(alloc, vault, keeper, &password) {
-        Ok(mount) => mount,
-        Err(ended) => return ended,
-    };
-    let mut asker = MountAsker {
-        mounted: Mounted { mount, chance },
-        now,
-        kept: None,
-        stopped: 0,
-    };
-    let (end, own) = put_told(alloc, &mut asker, &mut reader, input, to, &mut text, output);
-    let MountAsker {
-        mounted,
-        now: _,
-        kept: _kept,
-        stopped: _,
-    } = asker;
-    let Mounted {
-        mount,
-        chance: _chance,
-    } = mounted;
-    close(alloc, mount, end, own)
+/// A new file at this path, of the bytes that follow the password line, at one moment, and a line that says how that ended.
+#[derive(Drop)]
+pub struct Put {
+    pub path: Path,
+    pub now: Moment,
+}
+
+impl Asks for Put {
+    ghost manner = { put_manner };
+
+    type Text = CopyText;
+
+    fn text(alloc: Global) -> Result<CopyText, Memory> {
+        CopyText::new(alloc)
+    }
+
+    fn ask<'a, I: Source, O: Sink, F: Folder, V: Vault, K: Keeper, R: Rng>(
+        self,
+        alloc: Global,
+        mounted: Mounted<'a, V, K, R>,
+        reader: &mut LineReader,
+        text: &mut CopyText,
+        input: &mut I,
+        output: &mut O,
+        host: &mut F,
+    ) -> Answered<'a, V, K, R> {
+        let Self { path, now } = self;
+        let mut asker = MountAsker {
+            mounted,
+            now,
+            kept: None,
+            stopped: 0,
+        };
+        let (end, own) = put_told(alloc, &mut asker, reader, input, path, text, output);
+        let MountAsker {
+            mounted,
+            now: _,
+            kept: _kept,
+            stopped: _,
+        } = asker;
+        Answered { mounted, end, own }
+    }
 }

@@ -12,7 +12,7 @@ use Rattle.run_status.specs.declared.status.Status.{Status}
 use Rattle.trial_runs.specs.session_lines.declared.end.End.{End}
 use Rattle.copy_runs.specs.shell_runs.Sessions.{Session, IsServed, WasServed}
 use Rattle.cryfs_shell.specs.Copies.{HostSession}
-use Rattle.cryfs_shell.specs.Hosts.{IsStill, host_of}
+use Rattle.copy_runs.specs.shell_runs.Hosts.{host_of}
 
 module _ {V : Type 0} {K : Type 0} (trace : V → Option (List Call)) (faults : V → ℕ) (G : KeeperGhosts K) (now : Instant) (input output : Stream) (vault : V) (keeper : K) (ended : Ended V K)
     (Came Other : Option (List ℕ) → End → Status → List Exchange → Type 0) (turn : (script : Option (List ℕ)) (end : End) (own : Status) (es : List Exchange) → Came script end own es → Other script end own es) where
@@ -29,19 +29,14 @@ module _ {V : Type 0} {K : Type 0} (trace : V → Option (List Call)) (faults : 
     status = s.status;
   }
 
-  was_as : WasServed trace faults G now Came input vault keeper ended → WasServed trace faults G now Other input vault keeper ended
-  was_as (password, script, has, s) = (password, script, has, served_as password script s)
-
   pub session_as : Session trace faults G now Came input output vault keeper ended → Session trace faults G now Other input output vault keeper ended
   session_as (inl u) = inl u
   session_as (inr (password, script, has, inl unopened)) = inr (password, script, has, inl unopened)
   session_as (inr (password, script, has, inr s)) = inr (password, script, has, inr (served_as password script s))
 
-  still_as : {F : Type 0} (tree : F → Option HostTree) (count : F → ℕ) (old new : F) → (new ≡ old) ⊎ WasServed trace faults G now Came input vault keeper ended
-      → IsStill (host_of tree count old new) ⊎ WasServed trace faults G now Other input vault keeper ended
-  still_as tree count old new (inl same) = inl (ap tree same, ap count same)
-  still_as tree count old new (inr s) = inr (was_as s)
-
-  pub host_session : {F : Type 0} (tree : F → Option HostTree) (count : F → ℕ) (old new : F) → Session trace faults G now Came input output vault keeper ended
-      → (new ≡ old) ⊎ WasServed trace faults G now Came input vault keeper ended → HostSession trace faults G now Other input output (host_of tree count old new) vault keeper ended
-  host_session tree count old new session called = (session_as session, still_as tree count old new called)
+-- a session that left the folder of the host as it was, or opened a file system
+pub host_session : {V : Type 0} {K : Type 0} (trace : V → Option (List Call)) (faults : V → ℕ) (G : KeeperGhosts K) (now : Instant) (input : Stream) (vault : V) (keeper : K) (ended : Ended V K)
+    (Came : Option (List ℕ) → End → Status → List Exchange → Type 0) (output : Stream) {F : Type 0} (tree : F → Option HostTree) (count : F → ℕ) (old new : F) → Session trace faults G now Came input output vault keeper ended
+    → (new ≡ old) ⊎ WasServed trace faults G now Came input vault keeper ended → HostSession trace faults G now Came input output (host_of tree count old new) vault keeper ended
+host_session trace faults G now input vault keeper ended Came output tree count old new session (inl same) = (session, inl (ap tree same, ap count same))
+host_session trace faults G now input vault keeper ended Came output tree count old new session (inr s) = (session, inr s)

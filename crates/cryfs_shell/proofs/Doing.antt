@@ -26,9 +26,9 @@ use Rattle.program_words.specs.declared.form.Form.TheVariants.{Trial, TrialGener
 use Rattle.program_words.specs.Forms.{joined}
 use Rattle.copy_runs.proofs.copy_sessions_lemmas.Imported.{told_host as copy_host}
 use Rattle.cryfs_shell.specs.Clauses.{IsRefusedRun, NoFalseAlarm, KeepsTree, FaultsHappened, IsEmptied}
-use Rattle.cryfs_shell.specs.Copies.{Imports, Exports}
+use Rattle.copy_runs.specs.Copies.{Imports, Exports}
 use Rattle.cryfs_shell.specs.Doing.{Did, IsCaused}
-use Rattle.cryfs_shell.specs.Hosts.{HostSeen}
+use Rattle.copy_runs.specs.shell_runs.Hosts.{HostSeen}
 use Rattle.cryfs_shell.specs.Kinds.{is_session, opens}
 use Rattle.cryfs_shell.specs.Streams.{Streams}
 use Rattle.copy_runs.proofs.copy_file_lemmas.Sessions.{put_unhosted, get_unhosted}
@@ -76,10 +76,10 @@ module _ {V : Type 0} {K : Type 0} (trace : V → Option (List Call)) (faults : 
   command_causes : (script : Option (List ℕ)) (end : End) (own : Status) (es : List Exchange) → ComesCommand (joined words) input output script end own es → EndCause end input output
   command_causes script end own es came = reported_cause input output _ end came.0.0.2
 
-  import_causes : (path : HostPath) (script : Option (List ℕ)) (end : End) (own : Status) (es : List Exchange) → Imports path input output host script end own es → EndCause end input output
+  import_causes : (path : HostPath) (script : Option (List ℕ)) (end : End) (own : Status) (es : List Exchange) → Imports path host input output script end own es → EndCause end input output
   import_causes path script end own es (same, came) = reported_cause input output _ end came.told.written
 
-  export_causes : (path : HostPath) (script : Option (List ℕ)) (end : End) (own : Status) (es : List Exchange) → Exports path input output host script end own es → EndCause end input output
+  export_causes : (path : HostPath) (script : Option (List ℕ)) (end : End) (own : Status) (es : List Exchange) → Exports path host input output script end own es → EndCause end input output
   export_causes path script end own es came = reported_cause input output _ end came.told.written
 
   get_causes : (path : HostPath) (script : Option (List ℕ)) (end : End) (own : Status) (es : List Exchange) → ComesGet path input output script end own es → EndCause end input output
@@ -101,8 +101,8 @@ module _ {V : Type 0} {K : Type 0} (trace : V → Option (List Call)) (faults : 
   doing_faults Shell d k = session_faults trace faults G input output vault keeper ended now (ComesShell input output) shell_causes d
   doing_faults (Generate count) d k = session_faults trace faults G input output vault keeper ended now (ComesGenerated count input output) (generated_causes count) d
   doing_faults Command d k = session_faults trace faults G input output vault keeper ended now (ComesCommand (joined words) input output) command_causes d
-  doing_faults (Import path) d k = session_faults trace faults G input output vault keeper ended now (Imports path input output host) (import_causes path) d.0
-  doing_faults (Export path) d k = session_faults trace faults G input output vault keeper ended now (Exports path input output host) (export_causes path) d.0
+  doing_faults (Import path) d k = session_faults trace faults G input output vault keeper ended now (Imports path host input output) (import_causes path) d.0
+  doing_faults (Export path) d k = session_faults trace faults G input output vault keeper ended now (Exports path host input output) (export_causes path) d.0
   doing_faults (Put path) d k = session_faults trace faults G input output vault keeper ended now (ComesPut path input output) (put_cause path) d
   doing_faults (Get path) d k = session_faults trace faults G input output vault keeper ended now (ComesGet path input output) (get_causes path) d
   doing_faults Check d k = checked_faults trace faults names G input output vault keeper ended k d
@@ -118,8 +118,8 @@ module _ {V : Type 0} {K : Type 0} (trace : V → Option (List Call)) (faults : 
   doing_refusal Shell e d k marked = session_refusal trace faults G input output vault keeper ended now (ComesShell input output) shell_causes d marked
   doing_refusal (Generate count) e d k marked = session_refusal trace faults G input output vault keeper ended now (ComesGenerated count input output) (generated_causes count) d marked
   doing_refusal Command e d k marked = session_refusal trace faults G input output vault keeper ended now (ComesCommand (joined words) input output) command_causes d marked
-  doing_refusal (Import path) e d k marked = session_refusal trace faults G input output vault keeper ended now (Imports path input output host) (import_causes path) d.0 marked
-  doing_refusal (Export path) e d k marked = session_refusal trace faults G input output vault keeper ended now (Exports path input output host) (export_causes path) d.0 marked
+  doing_refusal (Import path) e d k marked = session_refusal trace faults G input output vault keeper ended now (Imports path host input output) (import_causes path) d.0 marked
+  doing_refusal (Export path) e d k marked = session_refusal trace faults G input output vault keeper ended now (Exports path host input output) (export_causes path) d.0 marked
   doing_refusal (Put path) e d k marked = session_refusal trace faults G input output vault keeper ended now (ComesPut path input output) (put_cause path) d marked
   doing_refusal (Get path) e d k marked = session_refusal trace faults G input output vault keeper ended now (ComesGet path input output) (get_causes path) d marked
   doing_refusal Check e d k marked = checked_refusal trace faults names G input output vault keeper ended k d marked
@@ -135,8 +135,8 @@ module _ {V : Type 0} {K : Type 0} (trace : V → Option (List Call)) (faults : 
   doing_alarm Shell d k bytes c first f honest e = session_alarm trace faults G input output vault keeper ended now (ComesShell input output) shell_causes d bytes c first f honest e
   doing_alarm (Generate count) d k bytes c first f honest e = session_alarm trace faults G input output vault keeper ended now (ComesGenerated count input output) (generated_causes count) d bytes c first f honest e
   doing_alarm Command d k bytes c first f honest e = session_alarm trace faults G input output vault keeper ended now (ComesCommand (joined words) input output) command_causes d bytes c first f honest e
-  doing_alarm (Import path) d k bytes c first f honest e = session_alarm trace faults G input output vault keeper ended now (Imports path input output host) (import_causes path) d.0 bytes c first f honest e
-  doing_alarm (Export path) d k bytes c first f honest e = session_alarm trace faults G input output vault keeper ended now (Exports path input output host) (export_causes path) d.0 bytes c first f honest e
+  doing_alarm (Import path) d k bytes c first f honest e = session_alarm trace faults G input output vault keeper ended now (Imports path host input output) (import_causes path) d.0 bytes c first f honest e
+  doing_alarm (Export path) d k bytes c first f honest e = session_alarm trace faults G input output vault keeper ended now (Exports path host input output) (export_causes path) d.0 bytes c first f honest e
   doing_alarm (Put path) d k bytes c first f honest e = session_alarm trace faults G input output vault keeper ended now (ComesPut path input output) (put_cause path) d bytes c first f honest e
   doing_alarm (Get path) d k bytes c first f honest e = session_alarm trace faults G input output vault keeper ended now (ComesGet path input output) (get_causes path) d bytes c first f honest e
   doing_alarm Check d k bytes c first f honest e = checked_alarm trace faults names G input output vault keeper ended k d bytes c first f honest e
@@ -152,8 +152,8 @@ module _ {V : Type 0} {K : Type 0} (trace : V → Option (List Call)) (faults : 
   doing_keeps Shell e d k bytes c first f = session_keeps trace faults G input output vault keeper ended now (ComesShell input output) shell_causes d bytes c first f
   doing_keeps (Generate count) e d k bytes c first f = session_keeps trace faults G input output vault keeper ended now (ComesGenerated count input output) (generated_causes count) d bytes c first f
   doing_keeps Command e d k bytes c first f = session_keeps trace faults G input output vault keeper ended now (ComesCommand (joined words) input output) command_causes d bytes c first f
-  doing_keeps (Import path) e d k bytes c first f = session_keeps trace faults G input output vault keeper ended now (Imports path input output host) (import_causes path) d.0 bytes c first f
-  doing_keeps (Export path) e d k bytes c first f = session_keeps trace faults G input output vault keeper ended now (Exports path input output host) (export_causes path) d.0 bytes c first f
+  doing_keeps (Import path) e d k bytes c first f = session_keeps trace faults G input output vault keeper ended now (Imports path host input output) (import_causes path) d.0 bytes c first f
+  doing_keeps (Export path) e d k bytes c first f = session_keeps trace faults G input output vault keeper ended now (Exports path host input output) (export_causes path) d.0 bytes c first f
   doing_keeps (Put path) e d k bytes c first f = session_keeps trace faults G input output vault keeper ended now (ComesPut path input output) (put_cause path) d bytes c first f
   doing_keeps (Get path) e d k bytes c first f = session_keeps trace faults G input output vault keeper ended now (ComesGet path input output) (get_causes path) d bytes c first f
   doing_keeps Check e d k bytes c first f = checked_keeps trace faults names G input output vault keeper ended k d bytes c first f
@@ -169,8 +169,8 @@ module _ {V : Type 0} {K : Type 0} (trace : V → Option (List Call)) (faults : 
   doing_emptied Shell q d e = session_emptied trace faults G input output vault keeper ended now (ComesShell input output) shell_causes d e
   doing_emptied (Generate count) q d e = session_emptied trace faults G input output vault keeper ended now (ComesGenerated count input output) (generated_causes count) d e
   doing_emptied Command q d e = session_emptied trace faults G input output vault keeper ended now (ComesCommand (joined words) input output) command_causes d e
-  doing_emptied (Import path) q d e = session_emptied trace faults G input output vault keeper ended now (Imports path input output host) (import_causes path) d.0 e
-  doing_emptied (Export path) q d e = session_emptied trace faults G input output vault keeper ended now (Exports path input output host) (export_causes path) d.0 e
+  doing_emptied (Import path) q d e = session_emptied trace faults G input output vault keeper ended now (Imports path host input output) (import_causes path) d.0 e
+  doing_emptied (Export path) q d e = session_emptied trace faults G input output vault keeper ended now (Exports path host input output) (export_causes path) d.0 e
   doing_emptied (Put path) q d e = session_emptied trace faults G input output vault keeper ended now (ComesPut path input output) (put_cause path) d e
   doing_emptied (Get path) q d e = session_emptied trace faults G input output vault keeper ended now (ComesGet path input output) (get_causes path) d e
   doing_emptied Check q d e = absurd (cc)
@@ -186,8 +186,8 @@ module _ {V : Type 0} {K : Type 0} (trace : V → Option (List Call)) (faults : 
   doing_uncalled Shell d k e = session_uncalled trace faults G input output vault keeper ended now (ComesShell input output) shell_causes d e
   doing_uncalled (Generate count) d k e = session_uncalled trace faults G input output vault keeper ended now (ComesGenerated count input output) (generated_causes count) d e
   doing_uncalled Command d k e = session_uncalled trace faults G input output vault keeper ended now (ComesCommand (joined words) input output) command_causes d e
-  doing_uncalled (Import path) d k e = session_uncalled trace faults G input output vault keeper ended now (Imports path input output host) (import_causes path) d.0 e
-  doing_uncalled (Export path) d k e = session_uncalled trace faults G input output vault keeper ended now (Exports path input output host) (export_causes path) d.0 e
+  doing_uncalled (Import path) d k e = session_uncalled trace faults G input output vault keeper ended now (Imports path host input output) (import_causes path) d.0 e
+  doing_uncalled (Export path) d k e = session_uncalled trace faults G input output vault keeper ended now (Exports path host input output) (export_causes path) d.0 e
   doing_uncalled (Put path) d k e = session_uncalled trace faults G input output vault keeper ended now (ComesPut path input output) (put_cause path) d e
   doing_uncalled (Get path) d k e = session_uncalled trace faults G input output vault keeper ended now (ComesGet path input output) (get_causes path) d e
   doing_uncalled Check d k e = checked_uncalled trace faults names G input output vault keeper ended k d e
@@ -203,8 +203,8 @@ module _ {V : Type 0} {K : Type 0} (trace : V → Option (List Call)) (faults : 
   doing_usage Shell d k e = session_usage trace faults G input output vault keeper ended now (ComesShell input output) shell_causes d e
   doing_usage (Generate count) d k e = session_usage trace faults G input output vault keeper ended now (ComesGenerated count input output) (generated_causes count) d e
   doing_usage Command d k e = session_usage trace faults G input output vault keeper ended now (ComesCommand (joined words) input output) command_causes d e
-  doing_usage (Import path) d k e = session_usage trace faults G input output vault keeper ended now (Imports path input output host) (import_causes path) d.0 e
-  doing_usage (Export path) d k e = session_usage trace faults G input output vault keeper ended now (Exports path input output host) (export_causes path) d.0 e
+  doing_usage (Import path) d k e = session_usage trace faults G input output vault keeper ended now (Imports path host input output) (import_causes path) d.0 e
+  doing_usage (Export path) d k e = session_usage trace faults G input output vault keeper ended now (Exports path host input output) (export_causes path) d.0 e
   doing_usage (Put path) d k e = session_usage trace faults G input output vault keeper ended now (ComesPut path input output) (put_cause path) d e
   doing_usage (Get path) d k e = session_usage trace faults G input output vault keeper ended now (ComesGet path input output) (get_causes path) d e
   doing_usage Check d k e = checked_usage trace faults names G input output vault keeper ended k d e
@@ -224,8 +224,8 @@ module _ {V : Type 0} {K : Type 0} (trace : V → Option (List Call)) (faults : 
   doing_host Shell d k e = session_host trace faults G input output vault keeper ended now (ComesShell input output) shell_causes Rose (λ script end own es came h. absurd (host_undone (sym h ∙ came.1))) d e
   doing_host (Generate count) d k e = session_host trace faults G input output vault keeper ended now (ComesGenerated count input output) (generated_causes count) Rose (λ script end own es came h. absurd (host_undone (sym h ∙ came.1))) d e
   doing_host Command d k e = session_host trace faults G input output vault keeper ended now (ComesCommand (joined words) input output) command_causes Rose (λ script end own es came h. absurd (host_undone (sym h ∙ came.1))) d e
-  doing_host (Import path) d k e = session_host trace faults G input output vault keeper ended now (Imports path input output host) (import_causes path) Rose (λ script end own es came h. copy_host _ came.1.result _ output end own host.faults host.risen came.1.told h came.1.host) d.0 e
-  doing_host (Export path) d k e = session_host trace faults G input output vault keeper ended now (Exports path input output host) (export_causes path) Rose (λ script end own es came h. copy_host _ came.result _ output end own host.faults host.risen came.told h came.host) d.0 e
+  doing_host (Import path) d k e = session_host trace faults G input output vault keeper ended now (Imports path host input output) (import_causes path) Rose (λ script end own es came h. copy_host _ came.1.result _ output end own host.faults host.risen came.1.told h came.1.host) d.0 e
+  doing_host (Export path) d k e = session_host trace faults G input output vault keeper ended now (Exports path host input output) (export_causes path) Rose (λ script end own es came h. copy_host _ came.result _ output end own host.faults host.risen came.told h came.host) d.0 e
   doing_host (Put path) d k e = session_host trace faults G input output vault keeper ended now (ComesPut path input output) (put_cause path) Rose (λ script end own es came h. absurd (put_unhosted path 0 script input output end own es came h)) d e
   doing_host (Get path) d k e = session_host trace faults G input output vault keeper ended now (ComesGet path input output) (get_causes path) Rose (λ script end own es came h. absurd (get_unhosted path input output end own es came h)) d e
   doing_host Check d k e = absurd (checked_host trace faults names G input output vault keeper ended k d e)

@@ -18,7 +18,7 @@ use Rattle.program_words.specs.Forms.{takes_memory}
 use Rattle.cryfs_shell.specs.Clauses.{IsRefusingStatus, IsRefusedRun, NoFalseAlarm, KeepsTree, TellsFaults, StatusSays}
 use Rattle.cryfs_shell.specs.Doing.{Did}
 use Rattle.cryfs_shell.specs.History.{Comes, Judges, Meets, HasHistory}
-use Rattle.cryfs_shell.specs.Hosts.{IsStill}
+use Rattle.copy_runs.specs.shell_runs.Hosts.{IsStill}
 use Rattle.cryfs_shell.specs.Streams.{Streams}
 use Rattle.cryfs_shell.proofs.CallRuns.{idly}
 use Rattle.cryfs_shell.proofs.Sessions.{one_unread, unread_keeps, stays_grown}

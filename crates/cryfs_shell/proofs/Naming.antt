@@ -59,9 +59,9 @@ use Rattle.program_words.specs.Forms.{joined}
 use Rattle.cryfs_shell.proofs.Checks.{state_named, output_named}
 use Rattle.cryfs_shell.proofs.Migrations.{memory_named, or_done}
 use Rattle.cryfs_shell.specs.Clauses.{FaultsNamed, MayHide, MayHideState, StreamFaultsNamed}
-use Rattle.cryfs_shell.specs.Copies.{Imports, Exports}
+use Rattle.copy_runs.specs.Copies.{Imports, Exports}
 use Rattle.cryfs_shell.specs.Doing.{Did}
-use Rattle.cryfs_shell.specs.Hosts.{HostSeen}
+use Rattle.copy_runs.specs.shell_runs.Hosts.{HostSeen}
 use Rattle.cryfs_shell.specs.Kinds.{is_session}
 use Rattle.cryfs_shell.specs.Streams.{Streams}
 use Rattle.trial_runs.specs.Runs.{Tried, GeneratedOnPlain, status_of}
@@ -365,9 +365,9 @@ module _ {V : Type 0} {K : Type 0} (trace : V → Option (List Call)) (faults : 
   doing_streams Command d =
       session_streams input output trace faults G vault keeper ended now (ComesCommand (joined words) input output) (λ script end own es came. reported_quiet input output _ end came.0.1 came.0.0.2) d
   doing_streams (Import path) d =
-      session_streams input output trace faults G vault keeper ended now (Imports path input output host) (λ script end own es came. reported_quiet input output _ end came.1.unfailed came.1.told.written) d.0
+      session_streams input output trace faults G vault keeper ended now (Imports path host input output) (λ script end own es came. reported_quiet input output _ end came.1.unfailed came.1.told.written) d.0
   doing_streams (Export path) d =
-      session_streams input output trace faults G vault keeper ended now (Exports path input output host) (λ script end own es came. reported_quiet input output _ end came.unfailed came.told.written) d.0
+      session_streams input output trace faults G vault keeper ended now (Exports path host input output) (λ script end own es came. reported_quiet input output _ end came.unfailed came.told.written) d.0
   doing_streams (Put path) d =
       session_streams input output trace faults G vault keeper ended now (ComesPut path input output) (λ script. put_quiet path script input output) d
   doing_streams (Get path) d =

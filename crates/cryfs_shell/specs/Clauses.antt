@@ -22,7 +22,7 @@ use Rattle.session_laws.specs.Drawing.{DrawsAs}
 use Rattle.session_laws.specs.Runs.{Outside, outside_of, OutsideStandsFor, OpensTo, OpensOnlyTo, forgeries, lies}
 use Rattle.program_words.specs.declared.form.Form.{Form}
 use Rattle.program_words.specs.declared.form.Form.TheVariants.{Passwd, Migrate, Check}
-use Rattle.cryfs_shell.specs.Hosts.{HostSeen}
+use Rattle.copy_runs.specs.shell_runs.Hosts.{HostSeen}
 use Rattle.cryfs_shell.specs.Kinds.{is_session, is_migration, copies, draws, seals}
 use Rattle.cryfs_shell.specs.Streams.{Streams}
 use Rattle.check_runs.specs.mount_core.Showing.{ShowsFiles}

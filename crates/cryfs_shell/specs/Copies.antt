@@ -1,10 +1,8 @@
 -- Copies as sessions.
-use Rattle.std.specs.Prelude.{◌≡◌, ◌⊎◌, ℕ, List}
+use Rattle.std.specs.Prelude.{◌⊎◌, ℕ, List}
 use Rattle.std.specs.declared.option.Option.{Option}
 use Rattle.trial_runs.specs.answers.Sessions.{Exchange}
-use Rattle.copy_runs.specs.copy_sessions.Coming.{ComesImport, ComesExport}
 use Rattle.fs_model.specs.Instant.{Instant}
-use Rattle.copy_runs.specs.host_folder.Folders.{HostPath}
 use Rattle.trial_runs.specs.line_io.Streams.{Stream}
 use Rattle.outside.specs.Trace.{Call}
 use Rattle.outside.specs.declared.keeper.Keeper.{Ghosts as KeeperGhosts}
@@ -12,15 +10,7 @@ use Rattle.run_status.specs.declared.ended.Ended.{Ended}
 use Rattle.run_status.specs.declared.status.Status.{Status}
 use Rattle.trial_runs.specs.session_lines.declared.end.End.{End}
 use Rattle.copy_runs.specs.shell_runs.Sessions.{Session, WasServed}
-use Rattle.cryfs_shell.specs.Hosts.{HostSeen, IsStill}
-
--- an import to this path; the folder stays
-abbrev pub Imports : HostPath → Stream → Stream → HostSeen → Option (List ℕ) → End → Status → List Exchange → Type 0
-Imports path input output host script end own es = (host.new ≡ host.old) × ComesImport host.old host.faults host.risen path input output script end own es
-
--- an export of this path
-abbrev pub Exports : HostPath → Stream → Stream → HostSeen → Option (List ℕ) → End → Status → List Exchange → Type 0
-Exports path input output host script end own es = ComesExport host.old host.new host.faults host.risen path input output script end own es
+use Rattle.copy_runs.specs.shell_runs.Hosts.{HostSeen, IsStill}
 
 -- a session that calls the host folder only where it opened a file system
 abbrev pub HostSession : {V : Type 0} → {K : Type 0} → (V → Option (List Call)) → (V → ℕ) → KeeperGhosts K → Instant → (Option (List ℕ) → End → Status → List Exchange → Type 0)

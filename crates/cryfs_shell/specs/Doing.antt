@@ -22,7 +22,8 @@ use Rattle.copy_runs.specs.shell_runs.Sessions.{Session, ComesShell, ComesGenera
 use Rattle.program_words.specs.declared.form.Form.{Form}
 use Rattle.program_words.specs.declared.form.Form.TheVariants.{Trial, TrialGenerate, Create, Info, Passwd, Migrate, Shell, Generate, Command, Import, Export, Put, Get, Check, Survey}
 use Rattle.program_words.specs.Forms.{joined}
-use Rattle.cryfs_shell.specs.Copies.{HostSession, Imports, Exports}
+use Rattle.copy_runs.specs.Copies.{Imports, Exports}
+use Rattle.cryfs_shell.specs.Copies.{HostSession}
 use Rattle.cryfs_shell.specs.Kinds.{IsRefused}
 use Rattle.cryfs_shell.specs.Streams.{Streams}
 use Rattle.trial_runs.specs.Runs.{Tried, GeneratedOnPlain}
@@ -39,8 +40,8 @@ Did trace faults names G words now s vault keeper ended (Some Migrate) = RanMigr
 Did trace faults names G words now s vault keeper ended (Some Shell) = Session trace faults G now (ComesShell s.input s.output) s.input s.output vault keeper ended
 Did trace faults names G words now s vault keeper ended (Some (Generate count)) = Session trace faults G now (ComesGenerated count s.input s.output) s.input s.output vault keeper ended
 Did trace faults names G words now s vault keeper ended (Some Command) = Session trace faults G now (ComesCommand (joined words) s.input s.output) s.input s.output vault keeper ended
-Did trace faults names G words now s vault keeper ended (Some (Import path)) = HostSession trace faults G now (Imports path s.input s.output s.host) s.input s.output s.host vault keeper ended
-Did trace faults names G words now s vault keeper ended (Some (Export path)) = HostSession trace faults G now (Exports path s.input s.output s.host) s.input s.output s.host vault keeper ended
+Did trace faults names G words now s vault keeper ended (Some (Import path)) = HostSession trace faults G now (Imports path s.host s.input s.output) s.input s.output s.host vault keeper ended
+Did trace faults names G words now s vault keeper ended (Some (Export path)) = HostSession trace faults G now (Exports path s.host s.input s.output) s.input s.output s.host vault keeper ended
 Did trace faults names G words now s vault keeper ended (Some (Put path)) = Session trace faults G now (ComesPut path s.input s.output) s.input s.output vault keeper ended
 Did trace faults names G words now s vault keeper ended (Some (Get path)) = Session trace faults G now (ComesGet path s.input s.output) s.input s.output vault keeper ended
 Did trace faults names G words now s vault keeper ended (Some Check) = RanCheck trace faults names G s.input s.output vault keeper ended

@@ -3,7 +3,7 @@ use Rattle.std.specs.Prelude.{◌≡◌, ℕ, Bool, true, false, List}
 use Rattle.std.specs.declared.option.Option.{Option}
 use Rattle.std.specs.declared.option.Option.TheVariants.{Some}
 use Rattle.trial_runs.specs.answers.Sessions.{Exchange}
-use Rattle.cryfs_shell.specs.Copies.{Imports, Exports}
+use Rattle.copy_runs.specs.Copies.{Imports, Exports}
 use Rattle.cryfs_shell.specs.Streams.{Streams}
 use Rattle.fs_model.specs.Instant.{Instant}
 use Rattle.session_laws.specs.Histories.{Run, session, quiet, examined, migrated, before_of, after_of, IsRun}
@@ -25,8 +25,8 @@ abbrev pub Comes : List (List ℕ) → Streams → Option Form → Option (List 
 Comes words s (Some Shell) = ComesShell s.input s.output
 Comes words s (Some (Generate count)) = ComesGenerated count s.input s.output
 Comes words s (Some Command) = ComesCommand (joined words) s.input s.output
-Comes words s (Some (Import path)) = Imports path s.input s.output s.host
-Comes words s (Some (Export path)) = Exports path s.input s.output s.host
+Comes words s (Some (Import path)) = Imports path s.host s.input s.output
+Comes words s (Some (Export path)) = Exports path s.host s.input s.output
 Comes words s (Some (Put path)) = ComesPut path s.input s.output
 Comes words s (Some (Get path)) = ComesGet path s.input s.output
 Comes words s asked = λ script end own es. ⊥

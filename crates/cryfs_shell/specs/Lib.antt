@@ -1,5 +1,4 @@
 pub mod Kinds
-pub mod Hosts
 pub mod Streams
 pub mod Copies
 pub mod Clauses
@@ -15,6 +14,7 @@ pub use Rattle.check_runs.specs.mount_migrating as mount_migrating
 pub use Rattle.check_runs.specs.mount_stores as mount_stores
 pub use Rattle.session_laws.specs as session_laws
 pub use Rattle.copy_runs.specs.shell_runs as shell_runs
+pub use Rattle.copy_runs.specs.shell_runs.Hosts as Hosts
 pub use Rattle.trial_runs.specs.answers as answers
 pub use Rattle.session_laws.specs.config_file as config_file
 pub use Rattle.session_laws.specs.block_versions as block_versions

@@ -2,7 +2,7 @@
 use Rattle.std.specs.Prelude.{◌≤◌}
 use Rattle.trial_runs.specs.line_io.Streams.{Stream}
 use Rattle.rand_core.specs.Stream.{Stream as Chance}
-use Rattle.cryfs_shell.specs.Hosts.{HostSeen}
+use Rattle.copy_runs.specs.shell_runs.Hosts.{HostSeen}
 
 -- its input, its output and the host folder, and the random bytes that were to come before it and after it
 pub record Streams : Type 0 where

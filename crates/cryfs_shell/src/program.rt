@@ -12,7 +12,7 @@ ghost use Rattle.program_words.specs.Forms.{form_of, joined, IsModest};
 ghost use Rattle.cryfs_shell.specs.Clauses.{IsRefusedRun, NoFalseAlarm, KeepsTree, TellsFaults, StatusSays, Spares};
 ghost use Rattle.cryfs_shell.specs.Doing.{Did, IsCaused};
 ghost use Rattle.cryfs_shell.specs.History.{HasHistory};
-ghost use Rattle.cryfs_shell.specs.Hosts.{host_of};
+ghost use Rattle.copy_runs.specs.shell_runs.Hosts.{host_of};
 ghost use Rattle.cryfs_shell.specs.Kinds.{opens, is_migration, draws, copies, seals};
 ghost use Rattle.cryfs_shell.specs.Streams.{NoneFalls, streams_of};
 
@@ -20,9 +20,7 @@ use crate::request::Request;
 use block_id::Memory;
 use check_runs::{run_check, run_create, run_info, run_migrate, run_passwd, run_survey};
 use copy_runs::host_folder::Folder;
-use copy_runs::{
-    CopyRequest, run_command, run_export, run_generate, run_get, run_import, run_put, run_shell,
-};
+use copy_runs::{Export, GeneratedCommands, Get, Import, Put, ShellLines, SingleLine, run_session};
 use fs_model::Moment;
 use outside::{Keeper, Listing, Sink, Source, Vault};
 use program_words::{CreateOptions, Form, joined, read_form};
@@ -151,26 +149,34 @@ fn run_form<I: Source, O: Sink, V: Vault + Listing, K: Keeper, R: Rng, F: Folder
         Form::Info => run_info(alloc, input, output, storage),
         Form::Passwd => run_passwd(alloc, input, output, storage, chance),
         Form::Migrate => run_migrate(alloc, input, output, storage, chance),
-        Form::Shell => run_shell(alloc, now, input, output, storage, chance),
-        Form::Generate(count) => { run_generate(alloc, now, count, input, output, storage, chance) }
-        Form::Command => run_line(
-            alloc,
-            Request { words, now },
-            input,
-            output,
-            storage,
-            chance,
-        ),
+        Form::Shell => {
+            let asks = ShellLines { now };
+            run_session(alloc, asks, input, output, storage, chance, host)
+        }
+        Form::Generate(count) => {
+            let asks = GeneratedCommands { count, now };
+            run_session(alloc, asks, input, output, storage, chance, host)
+        }
+        Form::Command => {
+            let request = Request { words, now };
+            run_line(alloc, request, input, output, storage, chance, host)
+        }
         Form::Import(path) => {
-            let request = CopyRequest { path: &path, now };
-            run_import(alloc, request, host, input, output, storage, chance)
+            let asks = Import { path, now };
+            run_session(alloc, asks, input, output, storage, chance, host)
         }
         Form::Export(path) => {
-            let request = CopyRequest { path: &path, now };
-            run_export(alloc, request, host, input, output, storage, chance)
+            let asks = Export { path, now };
+            run_session(alloc, asks, input, output, storage, chance, host)
         }
-        Form::Put(path) => run_put(alloc, now, path, input, output, storage, chance),
-        Form::Get(path) => run_get(alloc, now, &path, input, output, storage, chance),
+        Form::Put(path) => {
+            let asks = Put { path, now };
+            run_session(alloc, asks, input, output, storage, chance, host)
+        }
+        Form::Get(path) => {
+            let asks = Get { path, now };
+            run_session(alloc, asks, input, output, storage, chance, host)
+        }
         Form::Check => run_check(alloc, input, output, storage),
         Form::Survey => run_survey(alloc, input, output, storage),
     }
@@ -178,13 +184,14 @@ fn run_form<I: Source, O: Sink, V: Vault + Listing, K: Keeper, R: Rng, F: Folder
 
 /// A session of the one line that the words are.
 #[tactic(auto, using(crate::proofs::Drawn::undone))]
-fn run_line<I: Source, O: Sink, V: Vault, K: Keeper, R: Rng>(
+fn run_line<I: Source, O: Sink, V: Vault, K: Keeper, R: Rng, F: Folder>(
     alloc: Global,
     request: Request<'_>,
     input: &mut I,
     output: &mut O,
     storage: Storage<V, K>,
     chance: &mut R,
+    host: &mut F,
 ) -> Ended<V, K>
     ensures session { Session V.trace V.faults K.Keeper request.entry.now
         (ComesCommand (joined (map string_bytes request.entry.words.now)) (stream_of I.rest I.faults input.old input.new)
@@ -193,11 +200,18 @@ fn run_line<I: Source, O: Sink, V: Vault, K: Keeper, R: Rng>(
         storage.vault storage.keeper result }
     ensures drawn { DrawsVectors (R.stream chance.old) (R.stream chance.new)
         (outside_of V.trace V.faults K.Keeper storage.vault storage.keeper) (outside_of V.trace V.faults K.Keeper result.vault result.keeper) }
+    ensures unhosted { host.new ≡ host.old }
     ensures input_grows { I.faults input.old ≤ I.faults input.new }
     ensures output_grows { O.faults output.old ≤ O.faults output.new }
 {
     match joined(alloc, request.words) {
-        Ok(line) => run_command(alloc, request.now, &line, input, output, storage, chance),
+        Ok(line) => {
+            let asks = SingleLine {
+                line,
+                now: request.now,
+            };
+            run_session(alloc, asks, input, output, storage, chance, host)
+        }
         Err(Memory) => {
             let Storage { vault, keeper } = storage;
             Ended {

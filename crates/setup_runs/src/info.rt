@@ -5,11 +5,12 @@ ghost use Rattle.session_laws.specs.Runs.{outside_of};
 ghost use Rattle.session_laws.specs.Openings.{HasCauses};
 ghost use Rattle.setup_runs.specs.Info.{Told, ToldUnder};
 
-use crate::opening::{end_run, open};
+use crate::end::end_run;
 use crate::{MAX_TEXT, print_info};
 use outside::{Keeper, Sink, Source, Vault};
 use run_status::{Ended, Status, Storage};
 use session_laws::run_frame::read_password;
+use shell_runs::open;
 use std::alloc::Global;
 
 /// Opens the file system under the password line of the input, prints what its configuration says, and closes it. All

@@ -4,11 +4,11 @@
 
 mod create;
 mod create_text;
+mod end;
 mod info;
 mod info_text;
 mod migrate;
 mod migrate_text;
-mod opening;
 mod passwd;
 mod passwd_text;
 mod print;
@@ -20,10 +20,10 @@ pub use info_text::{MAX_TEXT, print_info};
 pub use migrate::run_migrate;
 pub use migrate_text::print_migrated;
 pub use mount_calls::{close, condemn};
-pub use opening::open;
 pub use passwd::run_passwd;
 pub use passwd_text::report_changed;
 pub use session_laws::mount::Mount;
+pub use shell_runs::open;
 
 // Handed on to crates above, which needn't list them.
 

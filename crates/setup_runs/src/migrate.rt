@@ -5,13 +5,14 @@ ghost use Rattle.session_laws.specs.Drawing.{DrawsNoNames};
 ghost use Rattle.session_laws.specs.Runs.{outside_of};
 ghost use Rattle.setup_runs.specs.Migrate.{RanMigrate, MigratedUnder};
 
-use crate::opening::{end_session, open};
+use crate::end::end_session;
 use crate::{MAX_TEXT, print_migrated};
 use mount_calls::migrate;
 use outside::{Keeper, Sink, Source, Vault};
 use rand_core::Rng;
 use run_status::{Ended, Status, Storage};
 use session_laws::run_frame::read_password;
+use shell_runs::open;
 use std::alloc::Global;
 
 /// Opens the file system under the password line of the input, writes its blocks anew in the newest format, says how many

@@ -5,13 +5,14 @@ ghost use Rattle.session_laws.specs.Runs.{outside_of};
 ghost use Rattle.session_laws.specs.Openings.{HasCauses};
 ghost use Rattle.setup_runs.specs.Passwd.{RanPasswd, ChangedUnder};
 
-use crate::opening::{end_run, open};
+use crate::end::end_run;
 use crate::report_changed;
 use mount_calls::change_password;
 use outside::{Keeper, Sink, Source, Vault};
 use rand_core::Rng;
 use run_status::{Ended, Storage};
 use session_laws::run_frame::{PasswordChange, read_two_passwords};
+use shell_runs::open;
 use std::alloc::Global;
 
 /// Opens the file system under the first line of the input, changes its password to the second line, says so where that

@@ -31,7 +31,7 @@ use Rattle.session_laws.specs.record_saver.declared.saver.SyncError.{SyncError}
 use Rattle.shell_runs.specs.declared.mounted.Mounted.{Mounted}
 use Rattle.mount_calls.specs.path_layer.Showing.{ShowsFiles}
 use Rattle.shell_runs.specs.Mounting.{mounted_hosting}
-use Rattle.shell_runs.specs.Sessions.{Session}
+use Rattle.shell_runs.specs.Sessions.{Session, WasServed}
 
 -- from the first byte on
 pub from_start : (taken : ℕ) (script before mid after : Option (List ℕ)) (f0 f1 f2 : ℕ) (output : Stream) (es : List Exchange) (end : End) → total taken mid ≡ total 0 before → f1 ≡ f0
@@ -56,19 +56,18 @@ module _ {V : Type 0} {K : Type 0} (trace : V → Option (List Call)) (faults : 
   pub halted : (error : OpenError) × IsUnopened trace faults G password vault keeper ended error → IsUnfailed input → Untouched output → Session trace faults G now Came input output vault keeper ended
   halted unopened unfailed unwritten = inr (password, script, has, inl (unopened, unfailed, unwritten))
 
-  pub served : {R : Type 0} (stream : R → Chance) (old new : Mounted V K R) (es : List Exchange) (end : End) (own : Status) → IsOwn own → Begun ShowsFiles trace faults G password vault keeper old.mount → IsReady trace faults G new.mount
+  pub was_served : {R : Type 0} (stream : R → Chance) (old new : Mounted V K R) (es : List Exchange) (end : End) (own : Status) → IsOwn own → Begun ShowsFiles trace faults G password vault keeper old.mount → IsReady trace faults G new.mount
       → Ran (mounted_hosting stream trace faults G) now old es new → Came script end own es
       → (closing : Result Unit SyncError) × (ended.status ≡ first_of (session_status new.mount.core.violated end closing) own) × Closing ShowsFiles trace faults G new.mount closing ended.vault ended.keeper
-      → Session trace faults G now Came input output vault keeper ended
-  served {R = R} stream old new es end own mild begun ready ran came (closing, status, closed) =
+      → WasServed trace faults G now Came input vault keeper ended
+  was_served {R = R} stream old new es end own mild begun ready ran came (closing, status, closed) =
       let mount = λ (m : Mounted V K R). m.mount in
       let went = undrawing mount (λ m. stream m.chance.now) (λ m. m.chance.ghost_name) ShowsFiles trace faults G now old new es ran in
-      let w = whole mount ShowsFiles trace faults G now password vault ended.vault keeper ended.keeper old new es closing new.mount.core.violated begun ready went closed refl in
-      inr (
+      let w = whole mount ShowsFiles trace faults G now password vault ended.vault keeper ended.keeper old new es closing new.mount.core.violated begun ready went closed refl in (
         password,
         script,
         has,
-        inr (record {
+        record {
           es = es;
           end = end;
           own = own;
@@ -78,8 +77,13 @@ module _ {V : Type 0} {K : Type 0} (trace : V → Option (List Call)) (faults : 
           session = subst (λ (b : Bool). IsSessionRun ShowsFiles now password (outside_of trace faults G vault keeper) (outside_of trace faults G ended.vault ended.keeper) b closing es) w.0.violation w.0;
           mounted = w.1;
           status = subst (λ (b : Bool). ended.status ≡ first_of (session_status b end closing) own) w.0.violation status;
-        }),
+        },
       )
+
+-- and so it was a session
+pub served : {V : Type 0} {K : Type 0} (trace : V → Option (List Call)) (faults : V → ℕ) (G : KeeperGhosts K) (now : Instant) (Came : Option (List ℕ) → End → Status → List Exchange → Type 0)
+    (input output : Stream) (vault : V) (keeper : K) (ended : Ended V K) → WasServed trace faults G now Came input vault keeper ended → Session trace faults G now Came input output vault keeper ended
+served trace faults G now Came input output vault keeper ended w = inr (w.0, w.1, w.2, inr w.3)
 
 -- and what it drew
 pub draws_served : {V : Type 0} {K : Type 0} {R : Type 0} (stream : R → Chance) (trace : V → Option (List Call)) (faults : V → ℕ) (G : KeeperGhosts K) (now : Instant) (password : List ℕ) (vault : V) (keeper : K) (ended : Ended V K) (own : Status) (end : End)

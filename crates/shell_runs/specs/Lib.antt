@@ -1,3 +1,5 @@
+pub mod Asking
+pub mod Hosts
 pub mod Mounting
 pub mod Sessions
 -- Handed on to crates above, which name their words so and needn't list them.

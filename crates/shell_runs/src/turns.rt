@@ -1,13 +1,15 @@
 // The beginning of a session, and its end.
 ghost use Rattle.std.specs.Prelude.{◌≡◌, Result, IfOk, IfErr};
+ghost use Rattle.session_laws.specs.block_versions.Standing.{records};
 ghost use Rattle.session_laws.specs.mount.Mounts.{IsReady};
 ghost use Rattle.session_laws.specs.mount.Sealing.{OpensSealed, view_of};
 ghost use Rattle.session_laws.specs.mount_stores.declared.error.OpenError.{OpenError};
+ghost use Rattle.session_laws.specs.mount_core.Standing.{IsKeptMarked};
 ghost use Rattle.rand_core.specs.Stream.{Stream};
 ghost use Rattle.session_laws.specs.run_frame.Statuses.{session_status};
 ghost use Rattle.run_status.specs.Statuses.{first_of};
-ghost use Rattle.session_laws.specs.Drawing.{DrawsVectors};
-ghost use Rattle.session_laws.specs.Openings.{IsUnopened};
+ghost use Rattle.session_laws.specs.Drawing.{DrawsNoNames};
+ghost use Rattle.session_laws.specs.Openings.{HasCauses, IsUnopened};
 ghost use Rattle.session_laws.specs.Runs.{outside_of};
 ghost use Rattle.session_laws.specs.Turns.{Begun, Closing};
 ghost use Rattle.session_laws.specs.record_saver.declared.saver.SyncError.{SyncError};
@@ -30,9 +32,11 @@ pub fn open<V: Vault, K: Keeper>(
 ) -> Result<Mount<V, K>, Ended<V, K>>
     ensures begun { IfOk result (λ mount. Begun ShowsFiles V.trace V.faults K.Keeper password.now vault keeper mount) }
     ensures sealed { IfOk result (λ mount. OpensSealed (K.kept keeper) (V.trace vault) (view_of V.trace mount)) }
+    ensures unmarked { IfOk result (λ mount. ¬ IsKeptMarked records (K.kept keeper)) }
     ensures unopened { IfErr result (λ ended. (error : OpenError) × IsUnopened V.trace V.faults K.Keeper password.now vault keeper ended error) }
     ensures undrawn { IfErr result (λ ended. (stream : Stream)
-        → DrawsVectors stream stream (outside_of V.trace V.faults K.Keeper vault keeper) (outside_of V.trace V.faults K.Keeper ended.vault ended.keeper)) }
+        → DrawsNoNames stream stream (outside_of V.trace V.faults K.Keeper vault keeper) (outside_of V.trace V.faults K.Keeper ended.vault ended.keeper)) }
+    ensures causes { IfErr result (λ ended. HasCauses (outside_of V.trace V.faults K.Keeper vault keeper) (outside_of V.trace V.faults K.Keeper ended.vault ended.keeper) ended.status) }
 {
     match attach(alloc, vault, keeper, password) {
         Ok(mount) => Ok(mount),

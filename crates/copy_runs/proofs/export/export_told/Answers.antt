@@ -4,7 +4,7 @@ use Rattle.copy_file.specs.copy_sessions.declared.way.Way.TheVariants.{Out}
 use Rattle.copy_file.specs.copy_sessions.Fitting.{WentBy}
 use Rattle.copy_file.proofs.copy_sessions_lemmas.Exported.{export_session}
 use Rattle.shell_runs.specs.Mounting.{mounted_hosting}
-use Rattle.copy_runs.proofs.Serving.{is_own}
+use Rattle.copy_runs.proofs.Owning.{is_own}
 use Rattle.copy_runs.proofs.export.export_told.Goals as goal
 
 pub returns-clause-own : goal.returns-clause-own

@@ -3,7 +3,7 @@ use Rattle.std.specs.String.{string_bytes}
 use Rattle.trial_runs.specs.line_io.Streams.{stream_of}
 use Rattle.run_status.specs.declared.status.Status.TheVariants.{Usage, Memory}
 use Rattle.program_words.specs.Forms.{form_of}
-use Rattle.cryfs_shell.specs.Hosts.{host_of}
+use Rattle.copy_runs.specs.shell_runs.Hosts.{host_of}
 use Rattle.cryfs_shell.specs.Kinds.{is_migration}
 use Rattle.cryfs_shell.specs.Streams.{streams_of}
 use Rattle.cryfs_shell.proofs.Asked.{asked_did, asked_refusal, asked_alarm, asked_keeps, asked_faults, asked_statuses, asked_spares, asked_history}

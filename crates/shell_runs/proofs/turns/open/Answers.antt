@@ -1,6 +1,6 @@
 use Rattle.session_laws.proofs.mount_lemmas.Formats.{opened_level}
-use Rattle.session_laws.proofs.Drawing.{draws_unopened}
-use Rattle.session_laws.proofs.Unopened.{unopened}
+use Rattle.session_laws.proofs.Drawing.{named_unopened}
+use Rattle.session_laws.proofs.Unopened.{unopened, caused}
 use Rattle.mount_calls.specs.path_layer.Showing.{ShowsFiles}
 use Rattle.shell_runs.proofs.turns.open.Goals as goal
 
@@ -21,6 +21,11 @@ returns-in-Err-clause-unopened g c =
     let h = c.in-Err.halted in
     (h.error, unopened g.V.Vault.trace g.V.Vault.faults g.K.Keeper c.args.password.now c.args.vault c.args.keeper h c.in-Err.ensures.halted c.opening_status.result c.opening_status.ensures c.in-Err.ensures.marked)
 
+pub returns-in-Err-clause-causes : goal.returns-in-Err-clause-causes
+returns-in-Err-clause-causes g c =
+    let h = c.in-Err.halted in
+    caused g.V.Vault.trace g.V.Vault.faults g.K.Keeper c.args.password.now c.args.vault c.args.keeper h c.in-Err.ensures.halted c.opening_status.result c.opening_status.ensures
+
 pub returns-in-Err-clause-undrawn : goal.returns-in-Err-clause-undrawn
 returns-in-Err-clause-undrawn g c stream =
-    draws_unopened ShowsFiles g.V.Vault.trace g.V.Vault.faults g.K.Keeper c.args.password.now c.args.vault c.args.keeper c.in-Err.halted stream c.in-Err.ensures.halted
+    named_unopened ShowsFiles g.V.Vault.trace g.V.Vault.faults g.K.Keeper c.args.password.now c.args.vault c.args.keeper c.in-Err.halted stream c.in-Err.ensures.halted
