@@ -82,6 +82,9 @@ module _ {V : Type 0} {K : Type 0} (trace : V → Option (List Call)) (faults : 
   export_causes : (path : HostPath) (script : Option (List ℕ)) (end : End) (own : Status) (es : List Exchange) → Exports path host input output script end own es → EndCause end input output
   export_causes path script end own es came = reported_cause input output _ end came.told.written
 
+  put_causes : (path : HostPath) (script : Option (List ℕ)) (end : End) (own : Status) (es : List Exchange) → ComesPut path input output script end own es → EndCause end input output
+  put_causes path script = put_cause path script input output
+
   get_causes : (path : HostPath) (script : Option (List ℕ)) (end : End) (own : Status) (es : List Exchange) → ComesGet path input output script end own es → EndCause end input output
   get_causes path script end own es came = get_cause path input output end own es came
 
@@ -103,7 +106,7 @@ module _ {V : Type 0} {K : Type 0} (trace : V → Option (List Call)) (faults : 
   doing_faults Command d k = session_faults trace faults G input output vault keeper ended now (ComesCommand (joined words) input output) command_causes d
   doing_faults (Import path) d k = session_faults trace faults G input output vault keeper ended now (Imports path host input output) (import_causes path) d.0
   doing_faults (Export path) d k = session_faults trace faults G input output vault keeper ended now (Exports path host input output) (export_causes path) d.0
-  doing_faults (Put path) d k = session_faults trace faults G input output vault keeper ended now (ComesPut path input output) (put_cause path) d
+  doing_faults (Put path) d k = session_faults trace faults G input output vault keeper ended now (ComesPut path input output) (put_causes path) d
   doing_faults (Get path) d k = session_faults trace faults G input output vault keeper ended now (ComesGet path input output) (get_causes path) d
   doing_faults Check d k = checked_faults trace faults names G input output vault keeper ended k d
   doing_faults Survey d k = surveyed_faults trace faults names G input output vault keeper ended k d
@@ -120,7 +123,7 @@ module _ {V : Type 0} {K : Type 0} (trace : V → Option (List Call)) (faults : 
   doing_refusal Command e d k marked = session_refusal trace faults G input output vault keeper ended now (ComesCommand (joined words) input output) command_causes d marked
   doing_refusal (Import path) e d k marked = session_refusal trace faults G input output vault keeper ended now (Imports path host input output) (import_causes path) d.0 marked
   doing_refusal (Export path) e d k marked = session_refusal trace faults G input output vault keeper ended now (Exports path host input output) (export_causes path) d.0 marked
-  doing_refusal (Put path) e d k marked = session_refusal trace faults G input output vault keeper ended now (ComesPut path input output) (put_cause path) d marked
+  doing_refusal (Put path) e d k marked = session_refusal trace faults G input output vault keeper ended now (ComesPut path input output) (put_causes path) d marked
   doing_refusal (Get path) e d k marked = session_refusal trace faults G input output vault keeper ended now (ComesGet path input output) (get_causes path) d marked
   doing_refusal Check e d k marked = checked_refusal trace faults names G input output vault keeper ended k d marked
   doing_refusal Survey e d k marked = surveyed_refusal trace faults names G input output vault keeper ended k d marked
@@ -137,7 +140,7 @@ module _ {V : Type 0} {K : Type 0} (trace : V → Option (List Call)) (faults : 
   doing_alarm Command d k bytes c first f honest e = session_alarm trace faults G input output vault keeper ended now (ComesCommand (joined words) input output) command_causes d bytes c first f honest e
   doing_alarm (Import path) d k bytes c first f honest e = session_alarm trace faults G input output vault keeper ended now (Imports path host input output) (import_causes path) d.0 bytes c first f honest e
   doing_alarm (Export path) d k bytes c first f honest e = session_alarm trace faults G input output vault keeper ended now (Exports path host input output) (export_causes path) d.0 bytes c first f honest e
-  doing_alarm (Put path) d k bytes c first f honest e = session_alarm trace faults G input output vault keeper ended now (ComesPut path input output) (put_cause path) d bytes c first f honest e
+  doing_alarm (Put path) d k bytes c first f honest e = session_alarm trace faults G input output vault keeper ended now (ComesPut path input output) (put_causes path) d bytes c first f honest e
   doing_alarm (Get path) d k bytes c first f honest e = session_alarm trace faults G input output vault keeper ended now (ComesGet path input output) (get_causes path) d bytes c first f honest e
   doing_alarm Check d k bytes c first f honest e = checked_alarm trace faults names G input output vault keeper ended k d bytes c first f honest e
   doing_alarm Survey d k bytes c first f honest e = surveyed_alarm trace faults names G input output vault keeper ended k d bytes c first f honest e
@@ -154,7 +157,7 @@ module _ {V : Type 0} {K : Type 0} (trace : V → Option (List Call)) (faults : 
   doing_keeps Command e d k bytes c first f = session_keeps trace faults G input output vault keeper ended now (ComesCommand (joined words) input output) command_causes d bytes c first f
   doing_keeps (Import path) e d k bytes c first f = session_keeps trace faults G input output vault keeper ended now (Imports path host input output) (import_causes path) d.0 bytes c first f
   doing_keeps (Export path) e d k bytes c first f = session_keeps trace faults G input output vault keeper ended now (Exports path host input output) (export_causes path) d.0 bytes c first f
-  doing_keeps (Put path) e d k bytes c first f = session_keeps trace faults G input output vault keeper ended now (ComesPut path input output) (put_cause path) d bytes c first f
+  doing_keeps (Put path) e d k bytes c first f = session_keeps trace faults G input output vault keeper ended now (ComesPut path input output) (put_causes path) d bytes c first f
   doing_keeps (Get path) e d k bytes c first f = session_keeps trace faults G input output vault keeper ended now (ComesGet path input output) (get_causes path) d bytes c first f
   doing_keeps Check e d k bytes c first f = checked_keeps trace faults names G input output vault keeper ended k d bytes c first f
   doing_keeps Survey e d k bytes c first f = surveyed_keeps trace faults names G input output vault keeper ended k d bytes c first f
@@ -171,7 +174,7 @@ module _ {V : Type 0} {K : Type 0} (trace : V → Option (List Call)) (faults : 
   doing_emptied Command q d e = session_emptied trace faults G input output vault keeper ended now (ComesCommand (joined words) input output) command_causes d e
   doing_emptied (Import path) q d e = session_emptied trace faults G input output vault keeper ended now (Imports path host input output) (import_causes path) d.0 e
   doing_emptied (Export path) q d e = session_emptied trace faults G input output vault keeper ended now (Exports path host input output) (export_causes path) d.0 e
-  doing_emptied (Put path) q d e = session_emptied trace faults G input output vault keeper ended now (ComesPut path input output) (put_cause path) d e
+  doing_emptied (Put path) q d e = session_emptied trace faults G input output vault keeper ended now (ComesPut path input output) (put_causes path) d e
   doing_emptied (Get path) q d e = session_emptied trace faults G input output vault keeper ended now (ComesGet path input output) (get_causes path) d e
   doing_emptied Check q d e = absurd (cc)
   doing_emptied Survey q d e = absurd (cc)
@@ -188,7 +191,7 @@ module _ {V : Type 0} {K : Type 0} (trace : V → Option (List Call)) (faults : 
   doing_uncalled Command d k e = session_uncalled trace faults G input output vault keeper ended now (ComesCommand (joined words) input output) command_causes d e
   doing_uncalled (Import path) d k e = session_uncalled trace faults G input output vault keeper ended now (Imports path host input output) (import_causes path) d.0 e
   doing_uncalled (Export path) d k e = session_uncalled trace faults G input output vault keeper ended now (Exports path host input output) (export_causes path) d.0 e
-  doing_uncalled (Put path) d k e = session_uncalled trace faults G input output vault keeper ended now (ComesPut path input output) (put_cause path) d e
+  doing_uncalled (Put path) d k e = session_uncalled trace faults G input output vault keeper ended now (ComesPut path input output) (put_causes path) d e
   doing_uncalled (Get path) d k e = session_uncalled trace faults G input output vault keeper ended now (ComesGet path input output) (get_causes path) d e
   doing_uncalled Check d k e = checked_uncalled trace faults names G input output vault keeper ended k d e
   doing_uncalled Survey d k e = surveyed_uncalled trace faults names G input output vault keeper ended k d e
@@ -205,7 +208,7 @@ module _ {V : Type 0} {K : Type 0} (trace : V → Option (List Call)) (faults : 
   doing_usage Command d k e = session_usage trace faults G input output vault keeper ended now (ComesCommand (joined words) input output) command_causes d e
   doing_usage (Import path) d k e = session_usage trace faults G input output vault keeper ended now (Imports path host input output) (import_causes path) d.0 e
   doing_usage (Export path) d k e = session_usage trace faults G input output vault keeper ended now (Exports path host input output) (export_causes path) d.0 e
-  doing_usage (Put path) d k e = session_usage trace faults G input output vault keeper ended now (ComesPut path input output) (put_cause path) d e
+  doing_usage (Put path) d k e = session_usage trace faults G input output vault keeper ended now (ComesPut path input output) (put_causes path) d e
   doing_usage (Get path) d k e = session_usage trace faults G input output vault keeper ended now (ComesGet path input output) (get_causes path) d e
   doing_usage Check d k e = checked_usage trace faults names G input output vault keeper ended k d e
   doing_usage Survey d k e = surveyed_usage trace faults names G input output vault keeper ended k d e
@@ -226,7 +229,7 @@ module _ {V : Type 0} {K : Type 0} (trace : V → Option (List Call)) (faults : 
   doing_host Command d k e = session_host trace faults G input output vault keeper ended now (ComesCommand (joined words) input output) command_causes Rose (λ script end own es came h. absurd (host_undone (sym h ∙ came.1))) d e
   doing_host (Import path) d k e = session_host trace faults G input output vault keeper ended now (Imports path host input output) (import_causes path) Rose (λ script end own es came h. copy_host _ came.1.result _ output end own host.faults host.risen came.1.told h came.1.host) d.0 e
   doing_host (Export path) d k e = session_host trace faults G input output vault keeper ended now (Exports path host input output) (export_causes path) Rose (λ script end own es came h. copy_host _ came.result _ output end own host.faults host.risen came.told h came.host) d.0 e
-  doing_host (Put path) d k e = session_host trace faults G input output vault keeper ended now (ComesPut path input output) (put_cause path) Rose (λ script end own es came h. absurd (put_unhosted path 0 script input output end own es came h)) d e
+  doing_host (Put path) d k e = session_host trace faults G input output vault keeper ended now (ComesPut path input output) (put_causes path) Rose (λ script end own es came h. absurd (put_unhosted path 0 script input output end own es came h)) d e
   doing_host (Get path) d k e = session_host trace faults G input output vault keeper ended now (ComesGet path input output) (get_causes path) Rose (λ script end own es came h. absurd (get_unhosted path input output end own es came h)) d e
   doing_host Check d k e = absurd (checked_host trace faults names G input output vault keeper ended k d e)
   doing_host Survey d k e = absurd (surveyed_host trace faults names G input output vault keeper ended k d e)

@@ -14,7 +14,6 @@ pub use Rattle.check_runs.specs.mount_migrating as mount_migrating
 pub use Rattle.check_runs.specs.mount_stores as mount_stores
 pub use Rattle.session_laws.specs as session_laws
 pub use Rattle.copy_runs.specs.shell_runs as shell_runs
-pub use Rattle.copy_runs.specs.shell_runs.Hosts as Hosts
 pub use Rattle.trial_runs.specs.answers as answers
 pub use Rattle.session_laws.specs.config_file as config_file
 pub use Rattle.session_laws.specs.block_versions as block_versions

@@ -110,7 +110,7 @@ fn run_form<I: Source, O: Sink, V: Vault + Listing, K: Keeper, R: Rng, F: Folder
     chance: &mut R,
     host: &mut F,
 ) -> Ended<V, K>
-    requires { IsModest asked.entry.form }
+    requires { IsModest asked.form }
     ensures did { Did V.trace V.faults V.names K.Keeper (map string_bytes asked.entry.words.now) asked.entry.now
         (streams_of (stream_of I.rest I.faults input.old input.new) (stream_of O.written O.faults output.old output.new)
         (host_of F.tree F.faults host.old host.new) (R.stream chance.old) (R.stream chance.new))

@@ -6,7 +6,7 @@ use Rattle.cryfs_shell.specs.answers.Sessions.{Exchange}
 use Rattle.cryfs_shell.specs.answers.Texts.{text_of_answer}
 use Rattle.cryfs_shell.specs.config_file.Settings.{Settings}
 use Rattle.cryfs_shell.specs.Doing.{Did}
-use Rattle.cryfs_shell.specs.Hosts.{HostSeen}
+use Rattle.cryfs_shell.specs.shell_runs.Hosts.{HostSeen}
 use Rattle.cryfs_shell.specs.Streams.{streams_of}
 use Rattle.fs_model.specs.Instant.{Instant}
 use Rattle.fs_model.specs.Tree.{Tree}

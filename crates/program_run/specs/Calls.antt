@@ -13,7 +13,7 @@ use Rattle.cryfs_shell.specs.session_laws.Runs.{Outside, outside_of}
 use Rattle.cryfs_shell.specs.program_words.Forms.{form_of}
 use Rattle.cryfs_shell.specs.Clauses.{IsRefusedRun, NoFalseAlarm, KeepsTree, TellsFaults, StatusSays}
 use Rattle.cryfs_shell.specs.Doing.{Did}
-use Rattle.cryfs_shell.specs.Hosts.{IsStill}
+use Rattle.cryfs_shell.specs.shell_runs.Hosts.{IsStill}
 use Rattle.cryfs_shell.specs.Kinds.{is_migration, copies, draws, opens, seals}
 use Rattle.cryfs_shell.specs.Streams.{Streams}
 

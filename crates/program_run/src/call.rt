@@ -1,7 +1,7 @@
 // The program's call as plain values.
 ghost use Rattle.std.specs.Prelude.{map, [], ◌∷◌};
 ghost use Rattle.std.specs.String.{string_bytes};
-ghost use Rattle.cryfs_shell.specs.Hosts.{host_of};
+ghost use Rattle.cryfs_shell.specs.shell_runs.Hosts.{host_of};
 ghost use Rattle.cryfs_shell.specs.Streams.{streams_of};
 ghost use Rattle.cryfs_shell.specs.line_io.Streams.{stream_of};
 ghost use Rattle.cryfs_shell.specs.session_laws.Runs.{outside_of};

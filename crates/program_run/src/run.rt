@@ -1,7 +1,7 @@
 // The program's one call, over real folders.
 ghost use Rattle.std.specs.Prelude.{◌≡◌, [], ◌∷◌, map};
 ghost use Rattle.std.specs.String.{string_bytes};
-ghost use Rattle.cryfs_shell.specs.Hosts.{host_of};
+ghost use Rattle.cryfs_shell.specs.shell_runs.Hosts.{host_of};
 ghost use Rattle.cryfs_shell.specs.Streams.{streams_of};
 ghost use Rattle.real_outside.specs.StreamsAdapters.{source_faults, sink_faults, written_by};
 ghost use Rattle.program_run.specs.Calls.{IsRunCall};

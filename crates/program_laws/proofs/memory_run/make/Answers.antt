@@ -4,7 +4,7 @@ use Rattle.std.specs.String.{string_bytes}
 use Rattle.program_laws.specs.Premises.{IsUntroubled}
 use Rattle.program_laws.specs.Setups.{IsBare}
 use Rattle.cryfs_shell.specs.Doing.{Did}
-use Rattle.cryfs_shell.specs.Hosts.{host_of}
+use Rattle.cryfs_shell.specs.shell_runs.Hosts.{host_of}
 use Rattle.cryfs_shell.specs.Streams.{streams_of}
 use Rattle.cryfs_shell.specs.line_io.Streams.{Stream}
 use Rattle.memory_outside.specs.Vaults.{VaultState}

@@ -3,7 +3,7 @@ use Rattle.std.specs.declared.option.Option.TheVariants.{Some}
 use Rattle.std.specs.String.{string_bytes}
 use Rattle.program_laws.specs.Premises.{IsUntroubled, Finds}
 use Rattle.cryfs_shell.specs.Doing.{Did}
-use Rattle.cryfs_shell.specs.Hosts.{host_of}
+use Rattle.cryfs_shell.specs.shell_runs.Hosts.{host_of}
 use Rattle.cryfs_shell.specs.Streams.{streams_of}
 use Rattle.fs_model.specs.Tree.{empty_tree}
 use Rattle.cryfs_shell.specs.line_io.Streams.{Stream}
