@@ -1,8 +1,8 @@
-// Which refused blocks a blob has.
+// Which blocks that aren't given a blob has.
 ghost use Rattle.std.specs.Prelude.{◌≡◌, map, IfOk};
-ghost use Rattle.check_refused.specs.Surveys.{Surveys, refusal_of};
+ghost use Rattle.check_refused.specs.Surveys.{Surveys, ungiven_of};
 
-use crate::survey::Refused;
+use crate::survey::{Ungiven, is_among};
 use block_id::{BlockId, Fail, Memory};
 use check_walk::data_nodes::{Node, read_node};
 use check_walk::store_api::Blocks;
@@ -10,75 +10,66 @@ use check_walk::{Marks, Reaching};
 use fs_model::Path;
 use std::alloc::Global;
 
-/// Gives the refused blocks of the blob with this root its path, where they have none. Of the blob its inner nodes are loaded
-/// alone, and those that have a mark aren't. What is below a node that isn't given isn't known.
+/// Gives those of the blocks that aren't given which the blob with this root has its path, where they have none. Of the blob its
+/// inner nodes are loaded alone, and those that have a mark aren't. What is below a node that isn't given isn't known.
 pub fn explore_blob<B: Blocks>(
     alloc: Global,
     store: &mut B,
     marks: &mut Marks,
-    refused: &mut Vec<Refused>,
+    ungiven: &mut Vec<Ungiven>,
     root: &BlockId,
     path: &Path,
-) -> Result<(), Fail>
+) -> Result<(), Memory>
     requires intact { B.meanings.intact store.old }
-    ensures surveys { Surveys B.meanings B.holdings store.old store.new result }
-    ensures same { map refusal_of refused.new.items ≡ map refusal_of refused.old.items }
+    ensures surveys { Surveys B.meanings B.holdings store.old store.new }
+    ensures same { map ungiven_of ungiven.new.items ≡ map ungiven_of ungiven.old.items }
 {
-    if name_block(alloc, refused, root, path).is_err() {
-        return Err(Fail::Memory);
-    }
+    name_block(alloc, ungiven, root, path)?;
     let mut open = Vec::new(alloc);
-    if open.push(BlockId(root.0)).is_err() {
-        return Err(Fail::Memory);
-    }
+    open.push(BlockId(root.0))?;
     for _turn in 0..4294967295u32 {
         let Some(id) = open.pop() else {
             return Ok(());
         };
-        match explore_node(alloc, store, marks, refused, &mut open, &id, path) {
-            Ok(()) => {}
-            Err(fail) => return Err(fail),
-        }
+        explore_node(alloc, store, marks, ungiven, &mut open, &id, path)?;
     }
-    Err(Fail::Memory)
+    Err(Memory)
 }
 
-/// Gives the refused blocks below a node the path, and puts its inner nodes behind the open ones.
+/// Gives the blocks below a node that aren't given the path, and puts its inner nodes behind the open ones.
 fn explore_node<B: Blocks>(
     alloc: Global,
     store: &mut B,
     marks: &mut Marks,
-    refused: &mut Vec<Refused>,
+    ungiven: &mut Vec<Ungiven>,
     open: &mut Vec<BlockId>,
     id: &BlockId,
     path: &Path,
-) -> Result<(), Fail>
+) -> Result<(), Memory>
     requires intact { B.meanings.intact store.old }
-    ensures surveys { Surveys B.meanings B.holdings store.old store.new result }
-    ensures same { map refusal_of refused.new.items ≡ map refusal_of refused.old.items }
+    ensures surveys { Surveys B.meanings B.holdings store.old store.new }
+    ensures same { map ungiven_of ungiven.new.items ≡ map ungiven_of ungiven.old.items }
 {
-    match load_once(alloc, store, marks, id) {
-        Ok(Some(Node::Inner { depth, children })) => {
-            match name_below(alloc, refused, open, depth, &children, path) {
-                Ok(()) => Ok(()),
-                Err(Memory) => Err(Fail::Memory),
-            }
+    if is_among(ungiven, id) {
+        return Ok(());
+    }
+    match load_once(alloc, store, marks, id)? {
+        Some(Node::Inner { depth, children }) => {
+            name_below(alloc, ungiven, open, depth, &children, path)
         }
-        Ok(Some(Node::Leaf(_bytes))) => Ok(()),
-        Ok(None) => Ok(()),
-        Err(fail) => Err(fail),
+        Some(Node::Leaf(_)) | None => Ok(()),
     }
 }
 
-/// The node of a block that is reached for the first time, where its payload holds one.
+/// The node of a block that is reached for the first time, where its payload comes and holds one.
 fn load_once<B: Blocks>(
     alloc: Global,
     store: &mut B,
     marks: &mut Marks,
     id: &BlockId,
-) -> Result<Option<Node>, Fail>
+) -> Result<Option<Node>, Memory>
     requires intact { B.meanings.intact store.old }
-    ensures surveys { Surveys B.meanings B.holdings store.old store.new result }
+    ensures surveys { Surveys B.meanings B.holdings store.old store.new }
 {
     match marks.reach(id, 1) {
         Reaching::First => {}
@@ -86,29 +77,25 @@ fn load_once<B: Blocks>(
     }
     let payload = match store.load(alloc, id) {
         Ok(Some(payload)) => payload,
-        Ok(None) | Err(Fail::Violation(_)) => return Ok(None),
-        Err(Fail::Memory) => return Err(Fail::Memory),
-        Err(Fail::Fault) => return Err(Fail::Fault),
+        Ok(None) | Err(Fail::Violation(_) | Fail::Fault) => return Ok(None),
+        Err(Fail::Memory) => return Err(Memory),
     };
-    match read_node(alloc, &payload) {
-        Ok(node) => Ok(node),
-        Err(Memory) => Err(Fail::Memory),
-    }
+    read_node(alloc, &payload)
 }
 
-/// Gives the refused blocks among the children of a node of this depth the path, and puts those that are inner nodes behind the open ones.
+/// Gives the children of a node of this depth that aren't given the path, and puts those that are inner nodes behind the open ones.
 fn name_below(
     alloc: Global,
-    refused: &mut Vec<Refused>,
+    ungiven: &mut Vec<Ungiven>,
     open: &mut Vec<BlockId>,
     depth: u8,
     children: &[BlockId],
     path: &Path,
 ) -> Result<(), Memory>
-    ensures same { map refusal_of refused.new.items ≡ map refusal_of refused.old.items }
+    ensures same { map ungiven_of ungiven.new.items ≡ map ungiven_of ungiven.old.items }
 {
     for child in children {
-        name_block(alloc, refused, child, path)?;
+        name_block(alloc, ungiven, child, path)?;
         if depth > 1 {
             open.push(*child)?;
         }
@@ -116,20 +103,20 @@ fn name_below(
     Ok(())
 }
 
-/// Gives the block the path, where it is refused and has none.
+/// Gives the block the path, where it isn't given and has none.
 fn name_block(
     alloc: Global,
-    refused: &mut Vec<Refused>,
+    ungiven: &mut Vec<Ungiven>,
     id: &BlockId,
     path: &Path,
 ) -> Result<(), Memory>
-    ensures same { map refusal_of refused.new.items ≡ map refusal_of refused.old.items }
+    ensures same { map ungiven_of ungiven.new.items ≡ map ungiven_of ungiven.old.items }
 {
-    match refused.binary_search_by(|block| block.id.cmp(id)) {
+    match ungiven.binary_search_by(|block| block.id.cmp(id)) {
         Ok(i) => {
-            if refused[i].path.is_none() {
+            if ungiven[i].path.is_none() {
                 let names = copy_of(alloc, path)?;
-                refused[i].path = Some(names);
+                ungiven[i].path = Some(names);
             }
             Ok(())
         }

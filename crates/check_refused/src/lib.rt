@@ -1,5 +1,6 @@
-//! A survey of a store's blocks: each is asked for once, those that are refused are told, and the paths that they belong to,
-//! as far as the blocks that are given say so.
+//! A survey of a store's blocks: each is asked for once, and those that aren't given are told.
+//!
+//! The paths that these blocks belong to, as far as the blocks that are given say so.
 #![tactic(auto)]
 
 mod exploring;
@@ -9,7 +10,7 @@ mod survey;
 
 pub use exploring::explore_blob;
 pub use finding::find_paths;
-pub use survey::{Refused, survey_blocks};
+pub use survey::{Ungiven, survey_blocks};
 
 // Handed on to crates above, which needn't list them.
 pub use check_walk;

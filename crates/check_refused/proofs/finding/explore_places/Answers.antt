@@ -1,5 +1,5 @@
 use Rattle.std.proofs.Common.{refl, ◌∙◌}
-use Rattle.check_refused.proofs.Surveying.{surveys_none, surveys_then, surveys_wants}
+use Rattle.check_refused.proofs.Surveying.{surveys_none, surveys_then}
 use Rattle.check_refused.proofs.finding.explore_places.Goals as goal
 
 pub loop-number-init : goal.loop-number-init
@@ -8,16 +8,10 @@ loop-number-init g c = record { surveys = surveys_none g.met.B.Blocks.lawful c.a
 pub loop-number-preserved : goal.loop-number-preserved
 loop-number-preserved g c =
     let inv = c.loop-number.invariant in
-    record { surveys = surveys_then g.met.B.Blocks.lawful inv.surveys c.in-Ok-explore_blob.ensures.surveys; same = c.explore_blob.ensures.same ∙ inv.same }
+    record { surveys = surveys_then g.met.B.Blocks.lawful inv.surveys c.explore_blob.ensures.surveys; same = c.explore_blob.ensures.same ∙ inv.same }
 
-pub returns-in-Err-explore_blob-clause-surveys : goal.returns-in-Err-explore_blob-clause-surveys
-returns-in-Err-explore_blob-clause-surveys g c = surveys_then g.met.B.Blocks.lawful c.loop-number.invariant.surveys c.in-Err-explore_blob.ensures.surveys
+pub returns-in_err-explore_blob-clause-surveys : goal.returns-in_err-explore_blob-clause-surveys
+returns-in_err-explore_blob-clause-surveys g c = surveys_then g.met.B.Blocks.lawful c.loop-number.invariant.surveys c.explore_blob.ensures.surveys
 
-pub returns-in-Err-explore_blob-clause-same : goal.returns-in-Err-explore_blob-clause-same
-returns-in-Err-explore_blob-clause-same g c = c.explore_blob.ensures.same ∙ c.loop-number.invariant.same
-
-pub returns-in-Err-clause-surveys : goal.returns-in-Err-clause-surveys
-returns-in-Err-clause-surveys g c = surveys_wants c.loop-number.invariant.surveys
-
-pub returns-clause-surveys : goal.returns-clause-surveys
-returns-clause-surveys g c = surveys_wants c.loop-number.invariant.surveys
+pub returns-in_err-explore_blob-clause-same : goal.returns-in_err-explore_blob-clause-same
+returns-in_err-explore_blob-clause-same g c = c.explore_blob.ensures.same ∙ c.loop-number.invariant.same

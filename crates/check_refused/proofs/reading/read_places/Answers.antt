@@ -5,7 +5,7 @@ use Rattle.std.specs.Option.{option_map}
 use Rattle.cryfs_check.specs.declared.place.Place.{Place}
 use Rattle.cryfs_check.specs.Places.{AreBehind, places_text, sites_of, site_needs, visit_needs}
 use Rattle.check_refused.proofs.Tables.{none_behind, within}
-use Rattle.check_refused.proofs.Surveying.{surveys_failed, surveys_none, surveys_ok, surveys_then, surveys_wants}
+use Rattle.check_refused.proofs.Surveying.{surveys_none, surveys_then}
 use Rattle.check_refused.proofs.reading.read_places.Goals as goal
 
 pub enter-requires-clause-within : goal.enter-requires-clause-within
@@ -20,13 +20,7 @@ loop-number-init g c = record {
 }
 
 pub loop-number-preserved : goal.loop-number-preserved
-loop-number-preserved g c = record { surveys = surveys_then g.met.B.Blocks.lawful c.loop-number.invariant.surveys c.in-Ok-enter.ensures.surveys; behind = c.in-Ok-enter.ensures.behind }
+loop-number-preserved g c = record { surveys = surveys_then g.met.B.Blocks.lawful c.loop-number.invariant.surveys c.enter.ensures.surveys; behind = c.in_ok-enter.ensures.behind }
 
-pub returns-in-Err-enter-clause-surveys : goal.returns-in-Err-enter-clause-surveys
-returns-in-Err-enter-clause-surveys g c = surveys_failed (surveys_then g.met.B.Blocks.lawful c.loop-number.invariant.surveys c.in-Err-enter.ensures.surveys)
-
-pub returns-in-None-clause-surveys : goal.returns-in-None-clause-surveys
-returns-in-None-clause-surveys g c = surveys_ok c.loop-number.invariant.surveys
-
-pub returns-clause-surveys : goal.returns-clause-surveys
-returns-clause-surveys g c = surveys_wants c.loop-number.invariant.surveys
+pub returns-in_err-enter-clause-surveys : goal.returns-in_err-enter-clause-surveys
+returns-in_err-enter-clause-surveys g c = surveys_then g.met.B.Blocks.lawful c.loop-number.invariant.surveys c.enter.ensures.surveys
