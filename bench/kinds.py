@@ -49,7 +49,13 @@ def after_info(system, ended):
 def after_check(system, ended):
     named = [line for line in ended.answers if line.startswith("block ")]
     told = f"check yes {len(named)}" if ended.status == 0 else "check yes"
-    return holds_history(system, seen_by(system)) and all(line.startswith(told) for line in ended.answers if line not in named)
+    others = [line for line in ended.answers if line not in named]
+    if others[:1] == ["fault directory"]:
+        # of `check --all`: no block is refused
+        fine = ended.status != 0 and all(line.endswith(" fault") for line in named) and set(others[1:]) <= {"refused 0", f"failed {len(named)}"}
+    else:
+        fine = all(line.startswith(told) for line in others)
+    return holds_history(system, seen_by(system)) and fine
 
 
 def after_passwd(system, ended):

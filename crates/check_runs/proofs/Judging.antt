@@ -56,6 +56,7 @@ module _ {V : Type 0} {K : Type 0} (trace : V → Option (List Call)) (faults : 
     ready = ready;
     only = record { loaded = (tower_lawful trace faults).same (store_of e.mount); beside = beside_none e.mount };
     stays = stays_same (tower_holdings trace) (store_of e.mount) (store_of e.mount) refl;
+    sound = λ s unforged. s;
     fault = tt;
     quiet = refl;
     judged = λ empty. record {
@@ -101,6 +102,7 @@ module _ {V : Type 0} {K : Type 0} (trace : V → Option (List Call)) (faults : 
       ready = o.intact;
       only = o.loaded;
       stays = record { ids = stays.ids; content = stays.content; told = stays.told; used = stays.used; spent = stays.spent; version = stays.version; payload = stays.payload };
+      sound = o.sound;
       fault = o.fault;
       quiet = o.quiet;
       judged = λ empty. subst (λ (id : Id). IsJudged (held_of a) id (trace_of trace a) (trace_of trace b) verdict) is_root (judged empty);

@@ -1,18 +1,19 @@
 -- A run of a survey, from how it began, what was found and how it was closed.
-use Rattle.std.proofs.Common.{◌≡◌, ◌≤◌, ◌∙◌, ℕ, Bool, true, false, List, [], sym, ap, subst, inr, arith}
-use Rattle.std.specs.Prelude.{is_some, IfErr, IsOk}
+use Rattle.std.proofs.Common.{◌≡◌, ◌≤◌, ◌∙◌, ℕ, Bool, true, false, List, [], map, sym, ap, subst, inr, arith}
+use Rattle.std.specs.Prelude.{is_some, IsOk}
 use Rattle.std.specs.declared.option.Option.{Option}
 use Rattle.setup_runs.specs.config_file.Settings.{Settings, settings_of}
 use Rattle.fs_model.specs.Tree.{Tree}
 use Rattle.block_versions.specs.Standing.{records}
-use Rattle.setup_runs.specs.mount.Answering.{store_of, calls_of, vault_faults, kept_of}
+use Rattle.setup_runs.specs.mount.Answering.{store_of, calls_of, lies_of, vault_faults, kept_of}
 use Rattle.setup_runs.specs.mount.declared.mount.Mount.{Mount}
 use Rattle.check_blocks.specs.Examined.{OnlyExamined}
 use Rattle.check_blocks.specs.ExaminedLaws.{examined_lawful}
 use Rattle.check_blocks.specs.declared.examined.Examined.{Examined}
 use Rattle.setup_runs.specs.mount_core.Standing.{IsKeptMarked}
 use Rattle.setup_runs.specs.mount_stores.Tower.{held_in, vault_in}
-use Rattle.check_walk.specs.store_outcome.Meanings.{HasCause, IsQuiet}
+use Rattle.outside.specs.Causes.{RoseBy}
+use Rattle.check_refused.specs.Surveys.{refusals, ungiven_of}
 use Rattle.outside.specs.Trace.{Call}
 use Rattle.outside.specs.declared.keeper.Keeper.{Ghosts as KeeperGhosts}
 use Rattle.check_walk.proofs.data_tree_lemmas.Forests.{stays-then}
@@ -28,10 +29,10 @@ use Rattle.setup_runs.specs.mount_core.Showing.{ShowsFiles}
 use Rattle.setup_runs.proofs.mount_lemmas.Formats.{equal_same, loaded_same}
 use Rattle.setup_runs.specs.mount.Formats.{TakesSame}
 use Rattle.check_runs.specs.Judging.{is_bad, held_for, IsJudged}
-use Rattle.check_runs.specs.Surveying.{IsSurveyed, SurveysBad, Looks, LeavesSurveyed, IsSurveyedRun}
+use Rattle.check_runs.specs.Surveying.{IsSurveyed, SurveysAll, Looks, LeavesSurveyed, IsSurveyedRun, faults_told, needs_survey}
 use Rattle.check_runs.specs.declared.surveying.Survey.{Survey}
 use Rattle.check_runs.proofs.Opened.{called_for, is_opened, stood, represents_last, fewer_lies, config_left}
-use Rattle.check_runs.proofs.Looking.{bad_quiet, Looked, looked, looks_on, unlooked}
+use Rattle.check_runs.proofs.Looking.{fine_quiet, Looked, looked, looked_calm, looked_rose, looks_on, told_rose, unlooked}
 
 module _ {V : Type 0} {K : Type 0} (trace : V → Option (List Call)) (faults : V → ℕ) (G : KeeperGhosts K) (password : List ℕ) (vault : V) (keeper : K) (first : Mount V K) (x : Survey V K)
     (b : Begun ShowsFiles trace faults G password vault keeper first) (unmarked : ¬ IsKeptMarked records (G.kept keeper)) (e : Looks trace faults G first x) where
@@ -50,11 +51,11 @@ module _ {V : Type 0} {K : Type 0} (trace : V → Option (List Call)) (faults : 
   abbrev last : Mount V K
   last = e.surveyed.mount
 
-  abbrev bad : Bool
-  bad = is_bad x.verdict
+  abbrev needed : Bool
+  needed = needs_survey x.verdict
 
   looks : Looked trace faults G e.judged e.surveyed
-  looks = looked trace faults G bad e.judged e.surveyed x.refused e.judges.ready e.surveys
+  looks = looked trace faults G e.judged e.surveyed x.ungiven.items x.end needed e.judges.ready e.surveys
 
   only : OnlyExamined trace faults first last
   only = (examined_lawful trace faults G).onward start e.judged e.surveyed e.judges.only looks.only
@@ -74,32 +75,26 @@ module _ {V : Type 0} {K : Type 0} (trace : V → Option (List Call)) (faults : 
   last_failed : G.faults x.keeper ≡ G.faults keeper
   last_failed = ap G.faults closed.2 ∙ (ap (λ (s : Saver K). G.faults s.keeper) only.beside.saver ∙ b.calls.keeper_quiet)
 
-  -- without a flaw or a violation nothing more was asked for
-  same_last : bad ≡ false → e.surveyed ≡ e.judged
-  same_last fine = unlooked trace faults G bad e.judged e.surveyed x.refused e.surveys fine
+  -- where no survey is needed nothing more was asked for
+  same_last : needed ≡ false → e.surveyed ≡ e.judged
+  same_last fine = unlooked trace faults G e.judged e.surveyed x.ungiven.items x.end needed e.surveys fine
 
-  fine_faults : bad ≡ false → faults x.vault ≡ vault_faults trace faults mid
-  fine_faults fine = last_faults ∙ ap (λ (y : Examined V K). vault_faults trace faults y.mount) (same_last fine)
+  surveys : needed ≡ true → SurveysAll trace faults G e.judged e.surveyed x.ungiven.items x.end
+  surveys is = looks_on trace faults G e.judged e.surveyed x.ungiven.items x.end needed e.surveys is
 
-  surveys : bad ≡ true → SurveysBad trace faults G e.judged e.surveyed x.refused
-  surveys is = looks_on trace faults G bad e.judged e.surveyed x.refused e.surveys is
-
-  mid_faults : bad ≡ true → vault_faults trace faults mid ≡ faults vault
-  mid_faults is = bad_quiet x.verdict (vault_faults trace faults first) (vault_faults trace faults mid) is e.judges.quiet ∙ b.calls.vault_quiet
+  rose : RoseBy (faults_told x.verdict x.ungiven.items) (vault_faults trace faults first) (vault_faults trace faults last)
+  rose = told_rose x.verdict x.ungiven.items (vault_faults trace faults first) (vault_faults trace faults mid) (vault_faults trace faults last) e.judges.fault
+      ((examined_lawful trace faults G).faults_grow start e.judged e.judges.only) (looked_rose trace faults G e.judged e.surveyed x.ungiven.items x.end needed e.surveys)
 
   leaves : LeavesSurveyed trace faults G vault keeper (kept_of G first) (calls_of trace first) x
   leaves = record {
     closed = closed.0;
     only_got = subst (λ (t : Option (List Call)). OnlyGot (calls_of trace first) t) (sym last_calls) (went_got (held_in (store_of first)) (calls_of trace first) (calls_of trace last) only.loaded.trace);
     vault_grows = let g = only.loaded.faults in let q = b.calls.vault_quiet in omega (arith, g, last_faults, q);
-    vault_cause = λ fine. subst (λ (n : ℕ). IfErr x.verdict (λ fail. HasCause fail n (faults x.vault))) b.calls.vault_quiet
-        (subst (λ (n : ℕ). IfErr x.verdict (λ fail. HasCause fail (vault_faults trace faults first) n)) (sym (fine_faults fine)) e.judges.fault);
-    vault_quiet = λ fine. subst (λ (n : ℕ). IsQuiet x.verdict n (faults x.vault)) b.calls.vault_quiet
-        (subst (λ (n : ℕ). IsQuiet x.verdict (vault_faults trace faults first) n) (sym (fine_faults fine)) e.judges.quiet);
-    survey_cause = λ is. subst (λ (n : ℕ). IfErr x.refused (λ fail. HasCause fail n (faults x.vault))) (mid_faults is)
-        (subst (λ (n : ℕ). IfErr x.refused (λ fail. HasCause fail (vault_faults trace faults mid) n)) (sym last_faults) (surveys is).fault);
-    survey_quiet = λ is. subst (λ (n : ℕ). IsQuiet x.refused n (faults x.vault)) (mid_faults is)
-        (subst (λ (n : ℕ). IsQuiet x.refused (vault_faults trace faults mid) n) (sym last_faults) (surveys is).quiet);
+    vault_cause = subst (λ (n : ℕ). RoseBy (faults_told x.verdict x.ungiven.items) n (faults x.vault)) b.calls.vault_quiet
+        (subst (λ (n : ℕ). RoseBy (faults_told x.verdict x.ungiven.items) (vault_faults trace faults first) n) (sym last_faults) rose);
+    vault_quiet = λ fine. last_faults ∙ (ap (λ (y : Examined V K). vault_faults trace faults y.mount) (same_last fine)
+        ∙ (fine_quiet x.verdict (vault_faults trace faults first) (vault_faults trace faults mid) fine e.judges.quiet ∙ b.calls.vault_quiet));
     unsaved = last_kept;
     keeper_quiet = last_failed;
   }
@@ -109,11 +104,11 @@ module _ {V : Type 0} {K : Type 0} (trace : V → Option (List Call)) (faults : 
   judged_is : IsJudged (held_for (settings_of first.opened.config) b.attached.state) (settings_of first.opened.config).root (calls_of trace first) (calls_of trace mid) x.verdict
   judged_is = called_for trace faults G password vault keeper first b (λ h r. IsJudged h r (calls_of trace first) (calls_of trace mid) x.verdict) (e.judges.judged (b.opened.ready.core.whole.none b.opened.unchanged))
 
-  surveyed_is : bad ≡ true → IsSurveyed (held_for (settings_of first.opened.config) b.attached.state) (calls_of trace mid) (trace x.vault) x.refused
+  surveyed_is : needed ≡ true → IsSurveyed (held_for (settings_of first.opened.config) b.attached.state) (calls_of trace mid) (trace x.vault) x.ungiven.items x.end
   surveyed_is is =
-      subst (λ (t : Option (List Call)). IsSurveyed (held_for (settings_of first.opened.config) b.attached.state) (calls_of trace mid) t x.refused) (sym last_calls)
-      (called_for trace faults G password vault keeper first b (λ h r. IsSurveyed h (calls_of trace mid) (calls_of trace last) x.refused)
-      (subst (λ h. IsSurveyed h (calls_of trace mid) (calls_of trace last) x.refused) e.judges.only.loaded.held (surveys is).surveyed))
+      subst (λ (t : Option (List Call)). IsSurveyed (held_for (settings_of first.opened.config) b.attached.state) (calls_of trace mid) t x.ungiven.items x.end) (sym last_calls)
+      (called_for trace faults G password vault keeper first b (λ h r. IsSurveyed h (calls_of trace mid) (calls_of trace last) x.ungiven.items x.end)
+      (subst (λ h. IsSurveyed h (calls_of trace mid) (calls_of trace last) x.ungiven.items x.end) e.judges.only.loaded.held (surveys is).surveyed))
 
   -- ---- what is kept
 
@@ -136,11 +131,16 @@ module _ {V : Type 0} {K : Type 0} (trace : V → Option (List Call)) (faults : 
   opens : StayOpen Before After
   opens = λ other c told o. (o.0, o.1, kept_file o.0 told o.2, o.3)
 
-  calm : (c : Settings) (tree : Tree) → OpensTo ShowsFiles password c tree Before After → lies After ≤ lies Before → bad ≡ false
+  calm : (c : Settings) (tree : Tree) → OpensTo ShowsFiles password c tree Before After → lies After ≤ lies Before → (is_bad x.verdict ≡ false) × (refusals (map ungiven_of x.ungiven.items) ≡ 0)
   calm c tree f honest =
+      let laws = examined_lawful trace faults G in
       let all = fewer_lies trace faults G password vault keeper first b last After only last_calls honest in
-      let grow = (examined_lawful trace faults G).lies_grow e.judged e.surveyed looks.only in
-      e.judges.calm tree tree (stood trace faults G password vault keeper first b last After only last_calls c tree f) (omega (arith, all, grow))
+      let early = laws.lies_grow start e.judged e.judges.only in
+      let grow = laws.lies_grow e.judged e.surveyed looks.only in
+      let stands = stood trace faults G password vault keeper first b last After only last_calls c tree f in
+      let none : lies_of trace faults mid ≤ lies_of trace faults first = omega (arith, all, grow) in
+      let unforged = laws.honest_unforged start e.judged e.judges.only stands.sound none in
+      (e.judges.calm tree tree stands none, looked_calm trace faults G e.judged e.surveyed x.ungiven.items x.end needed e.surveys (e.judges.sound stands.sound unforged) (omega (arith, all, early)))
 
   pub surveyed : IsSurveyedRun trace faults G password vault keeper x
   surveyed = record {

@@ -11,6 +11,7 @@ use Rattle.run_status.specs.Statuses.{first_of}
 use Rattle.run_status.specs.declared.status.Status.{Status}
 use Rattle.run_status.specs.declared.status.Status.TheVariants.{Done}
 use Rattle.setup_runs.specs.record_saver.declared.saver.SyncError.{SyncError}
+use Rattle.check_refused.specs.declared.survey.Ungiven.{Ungiven}
 use Rattle.check_texts.specs.Surveys.{IsSurveyTold}
 use Rattle.check_texts.specs.Telling.{IsTold, ListsAfter}
 use Rattle.check_runs.proofs.Leaving.{check_status, first_done}
@@ -41,15 +42,16 @@ told trace faults names G password output vault keeper x last status printed clo
     }
 
 pub survey_told : {V : Type 0} {K : Type 0} (trace : V → Option (List Call)) (faults : V → ℕ) (names : V → Option (List (List ℕ))) (G : KeeperGhosts K) (password : List ℕ) (output : Stream) (vault : V) (keeper : K) (x : Survey V K) (last : V)
-    (status printed closing : Status) → IsSurveyedRun trace faults G password vault keeper x → IsSurveyTold (names x.vault) x.verdict x.refused output printed → ListsAfter trace faults names x.verdict x.vault last printed
+    (ungiven : List Ungiven) (status printed closing : Status) → IsSurveyedRun trace faults G password vault keeper x → ungiven ≡ x.ungiven.items → IsSurveyTold (names x.vault) x.verdict ungiven x.end output printed → ListsAfter trace faults names x.verdict x.vault last printed
     → status ≡ first_of printed closing → closing ≡ closing_status x.closing → IsRefusalTold trace faults names G password output vault keeper (record { status = status; vault = last; keeper = x.keeper })
-survey_told trace faults names G password output vault keeper x last status printed closing surveyed t lists first closes =
+survey_told trace faults names G password output vault keeper x last ungiven status printed closing surveyed all said lists first closes =
+    let t = subst (λ (us : List Ungiven). IsSurveyTold (names x.vault) x.verdict us x.end output printed) all said in
     let is : status ≡ printed =
-    first ∙ (ap (first_of printed) (closes ∙ closed_well x.closing surveyed.leaves.closed) ∙ first_done printed (survey_status (names x.vault) x.verdict x.refused output printed t)) in
+    first ∙ (ap (first_of printed) (closes ∙ closed_well x.closing surveyed.leaves.closed) ∙ first_done printed (survey_status (names x.vault) x.verdict x.ungiven.items x.end output printed t)) in
     record {
       x = x;
       surveyed = surveyed;
-      told = subst (λ (s : Status). IsSurveyTold (names x.vault) x.verdict x.refused output s) (sym is) t;
+      told = subst (λ (s : Status). IsSurveyTold (names x.vault) x.verdict x.ungiven.items x.end output s) (sym is) t;
       lists = subst (λ (s : Status). ListsAfter trace faults names x.verdict x.vault last s) (sym is) lists;
       same_keeper = refl;
     }

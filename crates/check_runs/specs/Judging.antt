@@ -17,14 +17,14 @@ use Rattle.block_versions.specs.Loads.{loads_by}
 use Rattle.block_versions.specs.Reads.{FoundSince, GaveWrong}
 use Rattle.block_versions.specs.local_state.Known.{live_ids}
 use Rattle.block_versions.specs.local_state.Record.{PlainState}
-use Rattle.setup_runs.specs.mount.Answering.{store_of, lies_of, vault_faults}
+use Rattle.setup_runs.specs.mount.Answering.{store_of, forgeries_of, lies_of, vault_faults}
 use Rattle.setup_runs.specs.mount.Mounts.{IsReady}
 use Rattle.setup_runs.specs.mount.declared.mount.Mount.{Mount}
 use Rattle.setup_runs.specs.mount.Tower.{TowerStands}
 use Rattle.check_blocks.specs.Examined.{OnlyExamined, held_of, trace_of}
 use Rattle.check_blocks.specs.declared.examined.Examined.{Examined}
 use Rattle.setup_runs.specs.mount_calls.Condemning.{Condemns}
-use Rattle.setup_runs.specs.mount_stores.Tower.{tower_holdings}
+use Rattle.setup_runs.specs.mount_stores.Tower.{tower_holdings, tower_meanings}
 use Rattle.check_walk.specs.store_outcome.Meanings.{IsNoticed, IsOfBlocks, HasCause, IsQuiet, OnVerdict}
 use Rattle.outside.specs.Trace.{Call}
 use Rattle.outside.specs.declared.keeper.Keeper.{Ghosts as KeeperGhosts}
@@ -73,6 +73,7 @@ pub record Judges {V : Type 0} {K : Type 0} (trace : V → Option (List Call)) (
   pub ready : IsReady trace faults G new.mount
   pub only : OnlyExamined trace faults old.mount new.mount
   pub stays : Stays (tower_holdings trace) (store_of old.mount) (store_of new.mount)
+  pub sound : (tower_meanings trace faults).sound (store_of old.mount) → forgeries_of trace faults new.mount ≤ forgeries_of trace faults old.mount → (tower_meanings trace faults).sound (store_of new.mount)
   pub fault : IfErr verdict (λ fail. HasCause fail (vault_faults trace faults old.mount) (vault_faults trace faults new.mount))
   pub quiet : IsQuiet verdict (vault_faults trace faults old.mount) (vault_faults trace faults new.mount)
   pub judged : (held_of old).list ≡ [] → IsJudged (held_of old) old.mount.core.root.0 (trace_of trace old) (trace_of trace new) verdict

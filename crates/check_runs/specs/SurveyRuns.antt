@@ -14,11 +14,11 @@ use Rattle.check_texts.specs.Telling.{ListsAfter}
 use Rattle.check_runs.specs.declared.surveying.Survey.{Survey}
 use Rattle.check_runs.specs.Surveying.{IsSurveyedRun}
 
--- Under the password a file system was opened, checked, surveyed after a flaw or a violation, and closed, and then it was told what was found.
+-- Under the password a file system was opened, checked, surveyed after a flaw, a violation or a fault, and closed, and then it was told what was found.
 pub record IsRefusalTold {V : Type 0} {K : Type 0} (trace : V → Option (List Call)) (faults : V → ℕ) (names : V → Option (List (List ℕ))) (G : KeeperGhosts K) (password : List ℕ) (output : Stream) (vault : V) (keeper : K) (ended : Ended V K) : Type 0 where
   pub x : Survey V K
   pub surveyed : IsSurveyedRun trace faults G password vault keeper x
-  pub told : IsSurveyTold (names x.vault) x.verdict x.refused output ended.status
+  pub told : IsSurveyTold (names x.vault) x.verdict x.ungiven.items x.end output ended.status
   -- what closing gave back is given back, but that the directory may have been listed
   pub lists : ListsAfter trace faults names x.verdict x.vault ended.vault ended.status
   pub same_keeper : ended.keeper ≡ x.keeper

@@ -1,4 +1,4 @@
-// `check --all`: checks a whole file system, and names each block that is refused.
+// `check --all`: checks a whole file system, and names each block that isn't given.
 ghost use Rattle.std.specs.Prelude.{◌≡◌, ◌≤◌, []};
 ghost use Rattle.check_texts.specs.line_io.Streams.{stream_of};
 ghost use Rattle.setup_runs.specs.session_laws.Openings.{HasCauses};
@@ -14,8 +14,8 @@ use setup_runs::run_frame::{closing_status, read_password};
 use std::alloc::Global;
 
 /// Opens the file system under the password line of the input, checks and closes it, and tells what was found as a check
-/// does. After a flaw or a violation each live block is asked for besides, and those that are refused are told. What is
-/// kept is left. All memory for lines and the first 65,536 bytes of texts is taken before.
+/// does. After a flaw, a violation or a fault each live block is asked for besides, and those that aren't given are told. What
+/// is kept is left. All memory for lines and the first 65,536 bytes of texts is taken before.
 pub fn run_survey<I: Source, O: Sink, V: Vault + Listing, K: Keeper>(
     alloc: Global,
     input: &mut I,
@@ -71,7 +71,8 @@ fn tell_under<O: Sink, V: Vault + Listing, K: Keeper>(
     let mut page = page;
     let Survey {
         verdict,
-        refused,
+        ungiven,
+        end,
         closing,
         vault,
         keeper,
@@ -80,7 +81,9 @@ fn tell_under<O: Sink, V: Vault + Listing, K: Keeper>(
         Err(ended) => return ended,
     };
     let mut vault = vault;
-    let told = tell_survey(alloc, &verdict, &refused, &mut page, output, &mut vault);
+    let told = tell_survey(
+        alloc, &verdict, &ungiven, &end, &mut page, output, &mut vault,
+    );
     Ended {
         status: told.or(closing_status(closing)),
         vault,

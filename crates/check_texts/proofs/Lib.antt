@@ -3,4 +3,6 @@ mod Owned
 mod Searching
 mod Beside
 mod Told
+mod Surveyed
+mod Counted
 mod Violating

@@ -83,6 +83,11 @@ printed_whole o before text waiting (Ok u) none empty p =
 printed_whole o before text waiting (Err error) none empty c =
     subst (λ (u : List ℕ). IsCut o u error) (ap (λ u. u ++ (text ++ [])) none ∙ append-nil text) c
 
+-- a text that waited was written
+pub written_whole : (o : Stream) (text waiting : List ℕ) (r : Result Unit PrintError) → waiting ≡ [] → Prints o text [] waiting r → IsPrinted o text waiting r
+written_whole o text waiting (Ok u) empty p = printed_whole o [] text waiting (Ok u) refl empty (record { part = p.part; whole = p.whole; written = p.written; quiet = p.quiet })
+written_whole o text waiting (Err error) empty c = printed_whole o [] text waiting (Err error) refl empty c
+
 -- one that ended in its midst
 pub printed_stop : (o : Stream) (before text after waiting : List ℕ) (s : Result Unit PrintError) (error : PrintError) → before ≡ [] → IsErrAnd s (λ e. e ≡ error) → Prints o before text after s → IsPrinted o text waiting s
 printed_stop o before text after waiting (Ok u) error none is p = absurd is

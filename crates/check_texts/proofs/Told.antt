@@ -16,7 +16,7 @@ use Rattle.check_texts.specs.Texts.{owners_text}
 use Rattle.check_texts.specs.declared.error.PrintError.{PrintError}
 use Rattle.check_texts.specs.declared.error.PrintError.TheVariants.{Memory, Failed}
 
-behind : (w0 w1 w2 : Option (List ℕ)) (first text : List ℕ) → w1 ≡ appends w0 first → Cut w1 w2 text → Cut w0 w2 (first ++ text)
+pub behind : (w0 w1 w2 : Option (List ℕ)) (first text : List ℕ) → w1 ≡ appends w0 first → Cut w1 w2 text → Cut w0 w2 (first ++ text)
 behind w0 w1 w2 first text e (part, rest, is, written) =
     (first ++ part, rest, ap (λ u. first ++ u) is ∙ sym (append_assoc first part rest), written ∙ (ap (λ u. appends u part) e ∙ appends-append w0 first part))
 

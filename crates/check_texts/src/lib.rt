@@ -2,6 +2,7 @@
 //! are written in pieces.
 #![tactic(auto)]
 
+mod counting;
 mod error;
 mod flaws;
 mod owners;

@@ -1,7 +1,8 @@
 // Text that waits to be written.
-ghost use Rattle.std.specs.Prelude.{◌≡◌, ◌≤◌, ℕ, List, [], vec_capacity, IfOk};
+ghost use Rattle.std.specs.Prelude.{◌≡◌, ◌≤◌, ℕ, List, [], vec_capacity, IfOk, IfErr};
 ghost use Rattle.copy_sessions.specs.line_io.Streams.{stream_of};
 ghost use Rattle.check_texts.specs.Printing.{Prints};
+ghost use Rattle.check_texts.specs.declared.error.PrintError.TheVariants.{Failed};
 
 use crate::error::PrintError;
 use block_id::Memory;
@@ -41,6 +42,7 @@ impl Page {
     pub(crate) fn write<O: Sink>(&mut self, output: &mut O) -> Result<(), PrintError>
         ensures printed { Prints (stream_of O.written O.faults output.old output.new) self.old [] self.new result }
         ensures empty { self.new ≡ [] }
+        ensures failed { IfErr result (λ error. error ≡ Failed) }
         ensures grows { O.faults output.old ≤ O.faults output.new }
     {
         let written = write_all(output, &self.bytes);

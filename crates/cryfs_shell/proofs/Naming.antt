@@ -44,7 +44,7 @@ use Rattle.run_status.specs.Statuses.{first_of}
 use Rattle.session_laws.specs.run_frame.Statuses.{opening_status, closing_status, session_status}
 use Rattle.run_status.specs.declared.ended.Ended.{Ended}
 use Rattle.run_status.specs.declared.status.Status.{Status}
-use Rattle.run_status.specs.declared.status.Status.TheVariants.{Done, LongPassword, DirectoryFault, StateFault, InputFault, OutputFault, Memory}
+use Rattle.run_status.specs.declared.status.Status.TheVariants.{Done, LongPassword, Violation, DirectoryFault, StateFault, InputFault, OutputFault, Memory}
 use Rattle.scrypt_kdf.specs.Cost.{Cost}
 use Rattle.trial_runs.specs.session_lines.Driven.{EndsAs, Reported, IsUnfailed}
 use Rattle.trial_runs.specs.session_lines.declared.end.End.{End}
@@ -106,6 +106,13 @@ module _ (output : Stream) (status : Status) where
   one_unnamed (Err sync_error.FaultDirectory) closing r ok m = absurd (directory_is_no (sym r.0 ∙ m))
   one_unnamed (Err sync_error.FaultState) closing r ok m = absurd (state_is_no (sym r.0 ∙ m))
 
+-- the lines of a survey name the faults that its status hides
+hides_survey : (status : Status) → surveys.IsHiding status → MayHide (Some Survey) status
+hides_survey Violation h = tt
+hides_survey Memory h = tt
+hides_survey OutputFault h = tt
+hides_survey status h = absurd h
+
 -- ---- the directory and the record
 
 module _ {V : Type 0} {K : Type 0} (trace : V → Option (List Call)) (faults : V → ℕ) (G : KeeperGhosts K) (input output : Stream) (vault : V) (keeper : K) (ended : Ended V K) where
@@ -156,7 +163,12 @@ module _ {V : Type 0} {K : Type 0} (trace : V → Option (List Call)) (faults : 
   surveyed_named names (inl u) = idle_named Survey u.uncalled
   surveyed_named names (inr (password, after, has, unfailed, inl ((error, u), unwritten))) = unopened_named Survey password error u
   surveyed_named names (inr (password, after, has, unfailed, inr t)) =
-      each_named Survey (surveys.directory_quiet trace faults names G password output vault keeper ended t) (λ s. surveys.state_quiet trace faults names G password output vault keeper ended t)
+      let state = surveys.state_quiet trace faults names G password output vault keeper ended t in
+      record {
+        directory_quiet = λ shown d. surveys.directory_quiet trace faults names G password output vault keeper ended t d (λ h. shown (hides_survey ended.status h));
+        state_quiet = λ shown s. state;
+        memory = λ m. inr state;
+      }
 
   migrated_named : RanMigrate trace faults G input output vault keeper ended → Named Migrate
   migrated_named (inl u) = idle_named Migrate u.uncalled
@@ -300,7 +312,7 @@ module _ (input output : Stream) where
     surveyed_streams names (inl u) = unread_one u
     surveyed_streams names (inr (password, after, has, unfailed, inl ((error, u), unwritten))) = neither ended.status unfailed unwritten.1
     surveyed_streams names (inr (password, after, has, unfailed, inr t)) =
-        record { input_quiet = λ i l v. unfailed; output_quiet = surveys.survey_output (names t.x.vault) t.x.verdict t.x.refused output ended.status t.told }
+        record { input_quiet = λ i l v. unfailed; output_quiet = surveys.survey_output (names t.x.vault) t.x.verdict t.x.ungiven.items t.x.end output ended.status t.told }
 
     migrated_streams : RanMigrate trace faults G input output vault keeper ended → StreamsNamed
     migrated_streams (inl u) = unread_one u

@@ -23,7 +23,7 @@ use Rattle.check_runs.specs.mount_core.Showing.{ShowsFiles}
 
 of_survey : {V : Type 0} {K : Type 0} (trace : V → Option (List Call)) (faults : V → ℕ) (names : V → Option (List (List ℕ))) (G : KeeperGhosts K) (password : List ℕ) (output : Stream) (vault : V) (keeper : K) (ended : Ended V K)
     → IsRefusalTold trace faults names G password output vault keeper ended → CheckStatus ended.status
-of_survey trace faults names G password output vault keeper ended t = survey_status (names t.x.vault) t.x.verdict t.x.refused output ended.status t.told
+of_survey trace faults names G password output vault keeper ended t = survey_status (names t.x.vault) t.x.verdict t.x.ungiven.items t.x.end output ended.status t.told
 
 module _ {V : Type 0} {K : Type 0} (trace : V → Option (List Call)) (faults : V → ℕ) (names : V → Option (List (List ℕ))) (G : KeeperGhosts K) (input output : Stream) (vault : V) (keeper : K) (ended : Ended V K)
     (causes : HasCauses (outside_of trace faults G vault keeper) (outside_of trace faults G ended.vault ended.keeper) ended.status) where
@@ -45,7 +45,7 @@ module _ {V : Type 0} {K : Type 0} (trace : V → Option (List Call)) (faults : 
     directory_fault = causes.directory_fault;
     state_fault = causes.state_fault;
     input_fault = λ e. absurd (subst CheckStatus e (of_survey trace faults names G password output vault keeper ended t));
-    output_fault = survey_failed (names t.x.vault) t.x.verdict t.x.refused output ended.status t.told;
+    output_fault = survey_failed (names t.x.vault) t.x.verdict t.x.ungiven.items t.x.end output ended.status t.told;
   }
 
   pub surveyed_refusal : Done → IsKeptMarked records (G.kept keeper) → IsRefusedRun G.kept output vault keeper ended

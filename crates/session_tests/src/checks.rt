@@ -114,12 +114,14 @@ pw
 violation missing
 block 76B8E0ADA0F13D90405D6AE55386BD28 /a violation missing
 refused 1
+failed 0
 > check|--all
 pw
 = integrity violation
 violation missing
 block 76B8E0ADA0F13D90405D6AE55386BD28 /a violation missing
 refused 1
+failed 0
 > !put-back 0
 > check
 pw
@@ -144,9 +146,57 @@ violation old-version 3 2
 block 00000000000000000000000000000001 / violation old-version 3 2
 block 76B8E0ADA0F13D90405D6AE55386BD28 ? violation missing
 refused 2
+failed 0
 ";
 
 #[test]
 fn a_survey_names_each_refused_block_and_marks_nothing(rt: HostRuntime) -> Result<(), Fail> {
     tell(&rt, WITH_STRANGER, SURVEYS)
+}
+
+/// Two directories, of which the first was changed after the note 0.
+const CHANGED: &str = "> shell
+pw
+mkdir /a
+mkdir /b
+=
+ok
+ok
+> !note
+> shell
+pw
+mkdir /a/c
+=
+ok
+";
+
+const FAULTS: &str = "# a call that fails ends no survey, and the violation beside it is the status
+> !file first 0 first
+> !calls-fail 6
+> check|--all
+pw
+= integrity violation
+violation old-version 2 1
+block 76B8E0ADA0F13D90405D6AE55386BD28 /a violation old-version 2 1
+block 76B8E0ADA0F13D90405D6AE55386BD29 /b fault
+refused 1
+failed 1
+# also where the check ended at it, and the block isn't asked for a third time
+> !file first 0 first
+> !note
+> !calls-fail 2 3
+> check|--all
+pw
+= integrity violation
+fault directory
+block 00000000000000000000000000000001 / fault
+block 76B8E0ADA0F13D90405D6AE55386BD28 ? violation old-version 2 1
+refused 1
+failed 1
+> !count calls 4
+";
+
+#[test]
+fn a_fault_hides_no_violation(rt: HostRuntime) -> Result<(), Fail> {
+    tell(&rt, CHANGED, FAULTS)
 }

@@ -1,5 +1,0 @@
-use Rattle.check_texts.proofs.Passing.{unwritten}
-use Rattle.check_texts.proofs.refused.print_bad.Goals as goal
-
-pub returns-in_err-push_bad-clause-printed : goal.returns-in_err-push_bad-clause-printed
-returns-in_err-push_bad-clause-printed g c = unwritten _ _ _ _ _ _ c.from_residual.ensures.1
