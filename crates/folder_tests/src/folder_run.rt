@@ -1,5 +1,7 @@
 // What a run flushes as it puts a block, and before it saves a record.
 use crate::stories::tell;
+use real_outside::FolderRun;
+use std::alloc::{AllocError, Global};
 use std::test::Fail;
 
 /// Of the folders of two files, the block folder and the one that it lies in each has to be flushed before a record is saved.
@@ -132,4 +134,36 @@ fn runs_in_folders(rt: HostRuntime) -> Result<(), Fail> {
     tell(&rt, "runs", SAVES)?;
     tell(&rt, "runs", FLUSHES)?;
     tell(&rt, "runs", FOLDERS)
+}
+
+/// A record of three blocks, the second of which is dead, with so many bytes before their number.
+fn record_of(alloc: Global, magic: &str, front: usize) -> Result<Vec<u8>, AllocError> {
+    let mut bytes = String::from_str(alloc, magic)?.into_bytes();
+    bytes.resize(front, 7)?;
+    bytes.extend_from_slice(&[3, 0, 0, 0, 0, 0, 0, 0])?;
+    for is_live in &[1, 0, 1] {
+        bytes.extend_from_slice(&[7; 24])?;
+        bytes.push(*is_live)?;
+    }
+    bytes.extend_from_slice(&[0; 8])?;
+    Ok(bytes)
+}
+
+/// How many live blocks a run knows after such a record was loaded.
+fn known_of(alloc: Global, magic: &str, front: usize) -> Result<u64, Fail> {
+    let run = FolderRun::new(alloc, 1)?;
+    run.count_blocks();
+    run.know(&record_of(alloc, magic, front)?);
+    Ok(run.known_blocks())
+}
+
+#[test]
+fn live_blocks_are_counted(rt: HostRuntime) -> Result<(), Fail> {
+    let older = known_of(rt.alloc(), "cryfs.localstate;1\0", 104)?;
+    let newer = known_of(rt.alloc(), "cryfs.localstate;2\0", 105)?;
+    if older == 2 && newer == 2 {
+        Ok(())
+    } else {
+        Err(Fail::new(format_args!("{older} and {newer} live blocks were counted")))
+    }
 }
