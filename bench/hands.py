@@ -21,6 +21,7 @@ import hands_checks
 import hands_copies
 import hands_files
 import hands_golden
+import hands_mount
 import hands_processor
 import hands_real
 import hands_removing
@@ -30,14 +31,14 @@ import hands_updating
 import hands_words
 from hands_tree import BUILT, Skipped, Tree, programs_here
 
-CASES = hands_build.CASES + hands_processor.CASES + hands_words.CASES + hands_terminal.CASES + hands_files.CASES + hands_asking.CASES \
-    + hands_state_copy.CASES + hands_causes.CASES
-REAL = hands_real.CASES + hands_golden.CASES + hands_copies.CASES + hands_files.REAL + hands_checks.CASES + hands_removing.CASES + hands_updating.CASES \
-    + hands_state_copy.REAL
+CASES = (hands_build.CASES + hands_processor.CASES + hands_words.CASES + hands_terminal.CASES + hands_files.CASES + hands_asking.CASES +
+         hands_state_copy.CASES + hands_causes.CASES + hands_mount.CASES)
+REAL = (hands_real.CASES + hands_golden.CASES + hands_copies.CASES + hands_files.REAL + hands_checks.CASES + hands_removing.CASES +
+        hands_updating.CASES + hands_state_copy.REAL)
 
 
 def is_chosen(case, words):
-    return not words or case.__name__ in words or ("built" if case in REAL else "unbuilt") in words
+    return not words or case.__name__ in words or ("built" if case in REAL + hands_mount.REAL else "unbuilt") in words
 
 
 def passes(case, program=None, failed="FAILED"):
@@ -66,6 +67,22 @@ def passes_once_or_twice(case, program):
     return passes(case, program) if result is False else result
 
 
+def mount_cases():
+    """The cases that mount, as far as they can be run here."""
+    lacks = hands_mount.lacks()
+    if lacks:
+        print(f"skipped: {lacks}")
+    return [] if lacks else hands_mount.MOUNTED
+
+
+def real_mount_cases():
+    """Those of them that take both programs that were built."""
+    if hands_mount.lacks() or not os.path.exists(hands_mount.BUILT_MOUNT):
+        print("skipped: the program that mounts isn't built")
+        return []
+    return hands_mount.REAL
+
+
 def main(words):
     # What is started here has the system's own answer to signals, also where this was begun with some ignored.
     for it in (signal.SIGINT, signal.SIGHUP):
@@ -73,11 +90,12 @@ def main(words):
     programs = programs_here()
     if words[:1] == ["--program"]:
         programs, words = [os.path.abspath(words[1])], words[2:]
-    chosen = [(case, None) for case in CASES] + [(case, it) for it in programs for case in REAL]
+    real = REAL + real_mount_cases()
+    chosen = [(case, None) for case in CASES + mount_cases()] + [(case, it) for it in programs for case in real]
     chosen = [it for it in chosen if is_chosen(it[0], words)]
     told = [passes_once_or_twice(*it) for it in chosen]
     if not programs:
-        print(f"{len(REAL)} weren't run: the program isn't built")
+        print(f"{len(real)} weren't run: the program isn't built")
     print(f"{told.count(True)} passed, {told.count(False)} failed, {told.count(None)} skipped")
     return 1 if False in told else 0
 

@@ -8,13 +8,14 @@ from telling import USAGE, Refused, line_forms, named
 LINES = line_forms()
 COPIES = ("import", "export", "update")
 FILES = ("put", "get")
-COMMANDS = ("create", "info", "passwd", "migrate", "check", "shell", *COPIES, *FILES, "generate", "trial", *LINES)
+MOUNT = "mount"
+COMMANDS = ("create", "info", "passwd", "migrate", "check", "shell", MOUNT, *COPIES, *FILES, "generate", "trial", *LINES)
 # Commands that change nothing in the tree.
 LOOKS = ("info", "check", "export", "get", "ls", "stat", "read", "readlink")
 CREATE_OPTIONS = ("--blocksize", "--scrypt-n", "--scrypt-r", "--scrypt-p")
 # Words that may stand behind those of a command.
 LATE_OPTIONS = {"import": ("--quiet", "--leave-out"), "export": ("--quiet",), "update": ("--quiet", "--leave-out", "--delete", "--delete-all", "--dry-run"),
-                "check": ("--quiet",)}
+                "check": ("--quiet",), MOUNT: ("--background",)}
 # The word behind `rm` by which all below a path goes with it.
 WHOLE = "-r"
 PASSWORD_OPTIONS = ("--password-file", "--password-command")
@@ -87,6 +88,24 @@ class Call:
     def updates(self):
         """Whether it brings a directory to what a folder of this machine has."""
         return self.command == "update"
+
+    def mounts(self):
+        """Whether the kernel asks it, at a folder of this machine."""
+        return self.command == MOUNT
+
+    def stays_behind(self):
+        """Whether a mount goes on in the background."""
+        return "--background" in self.rest[2:]
+
+    def make_absolute(self):
+        """Gives its folders names that hold in any folder."""
+        here = os.getcwd()
+        self.blocks, self.state = os.path.join(here, self.blocks), os.path.join(here, self.state)
+        self.state_copy = self.state_copy and os.path.join(here, self.state_copy)
+
+    def program(self):
+        """The program that it is for, by its crate."""
+        return "cryfs_mount" if self.mounts() else "cryfs"
 
     def asks_lines(self):
         """Whether the wrapper asks the lines of a session for it."""
@@ -188,6 +207,8 @@ def check_command(words):
         check_line(LINES[command], more)
     if command in COPIES:
         check_copy(command, more)
+    if command == MOUNT:
+        check_mount(more)
     if command in FILES:
         check_file(command, more)
     if command == "generate":
@@ -216,6 +237,15 @@ def check_copy(command, words):
         raise Refused(f"{words[0]} stands behind PATH: {command} FOLDER PATH {words[0]}", USAGE)
     check_path(words[1])
     check_late(command, words[2:])
+
+
+def check_mount(words):
+    """Refuses what isn't a folder of this machine."""
+    if not words or not words[0]:
+        raise Refused(f"the words are {MOUNT} FOLDER: an empty folder of this machine", USAGE)
+    if words[0] in LATE_OPTIONS[MOUNT]:
+        raise Refused(f"{words[0]} stands behind FOLDER: {MOUNT} FOLDER {words[0]}", USAGE)
+    check_late(MOUNT, words[1:])
 
 
 def check_late(command, words):
