@@ -2,6 +2,7 @@
 
 It gets the kernel's descriptor and opens the file system first. Who looks at the folder meanwhile waits for that. So all here
 works on without it: no process but the ticking one looks at the folder, and none but the program has that descriptor."""
+import contextlib
 import fcntl
 import os
 import select
@@ -54,7 +55,9 @@ def begin_ticking(folder, lives, stood):
         while True:
             if answers(folder) and not has_answered:
                 has_answered = True
-                os.write(stood, b".")
+                # (this process may be all that is left)
+                with contextlib.suppress(BrokenPipeError):
+                    os.write(stood, b".")
             if select.select([lives], [], [], TICK)[0]:
                 return
     finally:
@@ -67,9 +70,11 @@ def go_beside(*files):
     for it in UNHEEDED:
         signal.signal(it, signal.SIG_IGN)
     leave_streams()
-    edges = [2, *sorted(files), os.sysconf("SC_OPEN_MAX")]
-    for before, behind in zip(edges, edges[1:]):
-        os.closerange(before + 1, behind)
+    for it in map(int, os.listdir("/proc/self/fd")):
+        if it > 2 and it not in files:
+            # (one of them was for the list itself)
+            with contextlib.suppress(OSError):
+                os.close(it)
 
 
 def answers(folder):
