@@ -7,7 +7,7 @@ import subprocess
 import time
 
 from hands_real import line, made
-from hands_tree import LIMIT, TOP, Terminal, has, require, same, wait_until
+from hands_tree import LIMIT, TOP, Skipped, Terminal, has, require, same, wait_until
 
 BUILT_MOUNT = f"{TOP}/crates/cryfs_mount/out/cryfs_mount"
 PLACE = "crates/cryfs_mount/out"
@@ -291,11 +291,18 @@ def tree_of(number):
         return file.read()
 
 
+def needs_root():
+    """Such a case runs the wrapper as somebody else."""
+    if os.geteuid():
+        raise Skipped("this isn't root")
+
+
 def a_user_mounts_by_the_helper(tree):
     """As root, the same as somebody else, to whom a device of another mount namespace is given."""
-    if os.geteuid() or not shutil.which("fusermount3"):
-        return
-    with folder_of(tree) as folder:
+    needs_root()
+    if not shutil.which("fusermount3"):
+        raise Skipped("there is no fusermount3")
+    with folder_of(tree):
         os.chmod(os.path.dirname(tree.top), 0o755)
         for path in ("m", "b", "s", "pw", f"{PLACE}", "crates/cryfs/out"):
             os.chown(f"{tree.top}/{path}", 65534, 65534)
@@ -303,13 +310,14 @@ def a_user_mounts_by_the_helper(tree):
         script = (f"cd {tree.top}; mknod device c 10 229; chmod 666 device; mount --bind device /dev/fuse || exit 99; exec setpriv --reuid=65534 --regid=65534 "
                   f"--clear-groups sh -c './cryfs --password-file pw b s mount m --background; echo $?; cat m/f; fusermount3 -u m; echo $?'")
         status, out, errors = tree.run("-m", "sh", "-c", script, script="/usr/bin/unshare")
+        if status == 99:
+            raise Skipped(f"no other device can be mounted: {errors}")
         same((status, out, errors), (0, "0\none\n0\n", ""), "as a user")
         wait_until(lambda: "closed" in got(tree), "it never closed")
 
 
 def what_mounts_is_named_where_it_is_missing(tree):
-    if os.geteuid():
-        return
+    needs_root()
     with folder_of(tree) as folder:
         os.chmod(os.path.dirname(tree.top), 0o755)
         os.chown(folder, 65534, 65534)
@@ -321,8 +329,7 @@ def what_mounts_is_named_where_it_is_missing(tree):
 
 
 def the_folder_has_to_be_ones_own(tree):
-    if os.geteuid():
-        return
+    needs_root()
     with folder_of(tree) as folder:
         os.chmod(os.path.dirname(tree.top), 0o755)
         script = "exec setpriv --reuid=65534 --regid=65534 --clear-groups ./cryfs --password-file pw b s mount m"
