@@ -34,7 +34,15 @@ pub(crate) fn read_places<B: Blocks>(
             Some(what) => what,
             None => return Ok(places),
         };
-        enter(alloc, store, &mut marks, &mut places, number, &what, ungiven)?;
+        enter(
+            alloc,
+            store,
+            &mut marks,
+            &mut places,
+            number,
+            &what,
+            ungiven,
+        )?;
     }
     Err(Memory)
 }
