@@ -20,6 +20,8 @@ import shutil
 import sys
 import tempfile
 
+# How the program is run stands beside the trials.
+sys.path.append(f"{os.path.dirname(os.path.dirname(os.path.abspath(__file__)))}/trials")
 from runs import BUILT, QUICK_KEY, Folders, Program
 from sessions import CryFs, Took, flush_files, peers, print_table, used
 from works import DIRECTORIES, OF_SMALL, require

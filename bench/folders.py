@@ -15,6 +15,8 @@ import tempfile
 import time
 from statistics import median
 
+# How the program is run stands beside the trials.
+sys.path.append(f"{os.path.dirname(os.path.dirname(os.path.abspath(__file__)))}/trials")
 from runs import BUILT
 
 NO_FLUSH = "int fsync(int fd) { return 0; }\nint fdatasync(int fd) { return 0; }\n"

@@ -32,6 +32,8 @@ try:
     from cryfs_config import derive_quickly
 except ImportError:
     derive_quickly = None
+# How the program is run stands beside the trials.
+sys.path.append(f"{os.path.dirname(os.path.dirname(os.path.abspath(__file__)))}/trials")
 from runs import BUILT, PASSWORD, QUICK_KEY, Folders, Program, most_memory
 from works import big_works, require, small_works, wall_works
 

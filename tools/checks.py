@@ -23,7 +23,7 @@ LIMIT = 290
 # Seconds that one has to end after it was interrupted.
 GRACE = 10
 # They run beside each other. The last two play the wrapper as a person meets it, and wait most of the time.
-CHECKS = ("tools/crates.py cryfs", "tools/names.py", "tools/plants.py", "tools/pages.py", "tools/prose.py", "bench/hands.py unbuilt", "bench/hands.py built")
+CHECKS = ("tools/crates.py cryfs", "tools/names.py", "tools/plants.py", "tools/pages.py", "tools/prose.py", "trials/hands.py unbuilt", "trials/hands.py built")
 
 
 def pass_on(lines):

@@ -14,7 +14,7 @@ import sys
 TOP = os.path.dirname(os.path.dirname(os.path.abspath(__file__)))
 COLUMNS = 160
 WORD = re.compile(r"[A-Za-z_][A-Za-z_0-9]*")
-BESIDE = ("docs/*.md", "README.md", "bench/*", "tools/*", "wrapper/*", "build", "cryfs", "crates/*/proofs/*.antt")
+BESIDE = ("docs/*.md", "README.md", "bench/*", "trials/*", "tools/*", "wrapper/*", "build", "cryfs", "crates/*/proofs/*.antt")
 
 
 def words_of(paths):

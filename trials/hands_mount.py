@@ -44,7 +44,7 @@ def folder_of(tree, password="pw"):
     """An empty folder, with the false program and a password in a file; nothing stays mounted there."""
     tree.built().write("pw", f"{password}\n")
     with emptied(tree) as folder:
-        shutil.copy2(f"{TOP}/bench/false_mount.py", f"{tree.top}/{PLACE}/cryfs_mount")
+        shutil.copy2(f"{TOP}/trials/false_mount.py", f"{tree.top}/{PLACE}/cryfs_mount")
         yield folder
 
 

@@ -1,7 +1,7 @@
 #!/usr/bin/env python3
 """Makes a file system with a built program, and prints it as the constants of a crate of golden tests.
 
-    bench/golden.py PROGRAM FOLDER > crates/golden_tests/src/stored.rt
+    trials/golden.py PROGRAM FOLDER > crates/golden_tests/src/stored.rt
 
 PROGRAM is the executable itself (`crates/cryfs/out/cryfs`); FOLDER is made, and holds the block folder and the state
 folder afterwards. Two sessions are closed well. A third can't put the root's block, since a folder lies in its file's place
