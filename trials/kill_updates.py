@@ -46,10 +46,11 @@ class Updates(Kind):
         return process.returncode, time.monotonic() - started
 
     def whole(self, *words):
-        """The same of a run that has to end well, once what was killed has ended."""
+        """The seconds of a run that has to end well, once what was killed has ended."""
         for _ in range(600):
-            if self.call(*words)[0] == 0:
-                return
+            status, seconds = self.call(*words)
+            if status == 0:
+                return seconds
             time.sleep(0.1)
         raise Lost(f"{words[0]} never ended well")
 
@@ -88,10 +89,11 @@ class Updates(Kind):
         make_rows(f"{self.top}/given", after)
         stop_after = None if self.usual is None else self.chance.uniform(0, 1.1 * self.usual)
         status, seconds = self.call("update", "given", "/", "--delete-all", stop_after=stop_after)
-        if status == 0:
-            self.usual = seconds if self.usual is None else 0.5 * (self.usual + seconds)
         self.judge(self.found(), after, status)
-        self.whole("update", "given", "/", "--delete-all")
+        again = self.whole("update", "given", "/", "--delete-all")
+        # (after a kill it is the whole one that does the work)
+        taken = again if status else seconds
+        self.usual = taken if self.usual is None else 0.5 * (self.usual + taken)
         if self.found() != after:
             raise Lost("the tree isn't the folder's after a whole update")
         self.rows = after
