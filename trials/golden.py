@@ -97,9 +97,7 @@ def print_files(name, meaning, files):
     print(f'\n/// {meaning}\npub const {name}: &str =\n    "{lines}";')
 
 
-def make(program, folder):
-    """What `create` told and the root, the record and the block files after the second session, those after the first, and
-    the record that waits. In the folder is what the third one left."""
+def main(program, folder):
     os.makedirs(folder)
     created = run(program, folder, ["create", "--blocksize", "256", "--scrypt-n", "16"], "")
     run(program, folder, ["shell"], FIRST)
@@ -107,13 +105,9 @@ def make(program, folder):
     run(program, folder, ["shell"], SECOND)
     second, record = blocks_in(folder), read(f"{folder}/state/cryfs.localstate")
     root = run(program, folder, ["info"], "").split()[3].decode()
-    return f"{created.decode().strip()}, root {root}", record, second, first, leave_waiting(program, folder, root)
-
-
-def main(program, folder):
-    made, record, second, first, waiting = make(program, folder)
+    waiting = leave_waiting(program, folder, root)
     print("// A file system that was made by `golden.py` with the program as it was on", time.strftime("%Y-%m-%d."))
-    print(f"// {made}")
+    print(f"// {created.decode().strip()}, root {root}")
     print_text("CONFIG", "The configuration's file.", read(f"{folder}/blocks/cryfs.config"))
     print_text("RECORD", "The local record after the second session.", record)
     print_text("WAITING", "That of the third session, whose list has what couldn't be put.", waiting)

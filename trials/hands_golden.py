@@ -1,8 +1,7 @@
 """Cases of file systems that another program made: the stored one of before, and those of each that was built here."""
-import contextlib
-import io
 import os
 import shutil
+import sys
 from types import SimpleNamespace
 
 import golden
@@ -40,8 +39,7 @@ def one_of_before_opens(tree):
 def one_of_each_program_opens(tree):
     tree.real()
     for program in programs_here():
-        with contextlib.redirect_stderr(io.StringIO()):
-            golden.make(program, f"{tree.top}/made")
+        same(tree.run(golden.__file__, program, f"{tree.top}/made", script=sys.executable)[0], 0, "what golden.py does")
         for name, to in (("blocks", "b"), ("state", "s")):
             shutil.rmtree(f"{tree.top}/{to}", ignore_errors=True)
             shutil.move(f"{tree.top}/made/{name}", f"{tree.top}/{to}")
