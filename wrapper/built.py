@@ -124,7 +124,7 @@ class Built:
         if not is_program(program) and self.is_installed:
             raise Refused(f"{program} isn't there: install it anew")
         if not is_program(program):
-            raise Refused(f"the program isn't built yet: run {self.top}/build, which takes 20 to 30 minutes the first time")
+            raise Refused(f"the program isn't built yet: run {self.top}/build, which takes 30 minutes or more the first time")
         try:
             if not self.is_installed and not self.is_current():
                 say(NOT_CURRENT if built_of(self.program) else UNKNOWN)
