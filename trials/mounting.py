@@ -84,6 +84,9 @@ class System:
     def unmount(self, status=0):
         said = unmount(self.folder)
         require(not said, said)
+        return self.ended_with(status)
+
+    def ended_with(self, status):
         found, told = self.ended()
         require(found == status, f"the mount ended with {found}: {told}")
         return told
@@ -199,9 +202,11 @@ def changed(system, _):
             file.seek(60)
             file.write(bytes([byte[0] ^ 1]))
     found = [mount_steps.seen(it, system.folder) for it in (lambda it: mount_steps.look(f"{it}/0"), lambda it: os.mkdir(f"{it}/d"), os.listdir)]
-    require(found[:2] == ["EBADMSG", "EBADMSG"], f"requests were answered {found}")
-    said = system.unmount(status=5)
-    require("violation " in said and "integrity violation" in said and "End it: " in said, f"it said {said}")
+    require(found[0] == "EBADMSG" and (found[1] == "EBADMSG" or not is_mounted(system.folder)), f"requests were answered {found}")
+    said = system.unmount(status=5) if is_mounted(system.folder) else system.ended_with(5)
+    # (on a busy machine the first tick may come behind the violation: then the run has unmounted by itself)
+    told = "End it: " in said or "unmounted, and closing" in said
+    require("violation " in said and "integrity violation" in said and told, f"it said {said}")
     system.call("ls", "/", status=5)
     return "each request is refused, and the run ends with 5"
 

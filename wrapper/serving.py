@@ -130,13 +130,15 @@ class Serving:
 
     def watch(self, announce):
         """Waits until the program has ended, and does what comes up."""
-        deeds = {self.errors: self.hear, self.woken: lambda: os.read(self.woken, 65536), self.stood: lambda: self.stand(announce)}
+        # (in this order, so that a mount which stood before a violation is taken for one that stands)
+        deeds = {self.stood: lambda: self.stand(announce), self.errors: self.hear, self.woken: lambda: os.read(self.woken, 65536)}
         ready = []
         while self.lives not in ready:
             wanted = [it for it in (self.lives, self.errors, self.woken, self.stood) if it is not None]
             ready = select.select(wanted, [], [], self.unmounting.patience())[0]
-            for it in deeds.keys() & set(ready):
-                deeds[it]()
+            for it, deed in deeds.items():
+                if it in ready:
+                    deed()
             self.unmounting.look()
             self.unmounting.go_on()
             self.heed()
