@@ -74,7 +74,7 @@ echo closed >>"$got"
 # The wrapper's modules, by which a case asks what they know.
 sys.path[:0] = [f"{TOP}/wrapper"]
 # The most seconds that a run may take, so that a busy machine fails nothing.
-LIMIT = 60
+LIMIT = int(os.environ.get("CASE_SECONDS", "60"))
 # What an installation takes of the documents, README.md aside.
 INSTALLED_PAGES = ("docs/USING.md", "docs/FORMATS.md", "docs/PERFORMANCE.md")
 
