@@ -41,12 +41,12 @@ pub record LawfulHost {H : Type 0} (M : Hosting H) : Type 0 where
   -- an answer is Refused just where it refuses
   pub refusal : (h k : H) (now : Instant) (asked : Asked) (answer : Answer) → M.answers h now asked answer k → is_refused answer ≡ M.refuses h
 
--- one exchange after another led from the one to the other; the newest stands first
-abbrev pub Ran : {H : Type 0} → Hosting H → Instant → H → List Exchange → H → Type 0
-Ran M now old [] new = new ≡ old
-Ran {H} M now old (e ∷ es) new = (mid : H) × Ran M now old es mid × M.answers mid now e.asked e.answer new
+-- one exchange after another, each at its moment, led from the one to the other; the newest stands first
+abbrev pub Ran : {H : Type 0} → Hosting H → H → List Exchange → H → Type 0
+Ran M old [] new = new ≡ old
+Ran {H} M old (e ∷ es) new = (mid : H) × Ran M old es mid × M.answers mid e.at e.asked e.answer new
 
 -- what refuses nothing at first refuses just after a violation, and says so
 abbrev pub RefusesAfter : {H : Type 0} → Hosting H → Type 0
-RefusesAfter {H} M = (now : Instant) (old : H) (es : List Exchange) (new : H) → Ran M now old es new → M.refuses old ≡ false
+RefusesAfter {H} M = (old : H) (es : List Exchange) (new : H) → Ran M old es new → M.refuses old ≡ false
     → (M.refuses new ≡ violated es) × RefusesAfterViolation es

@@ -16,10 +16,16 @@ use Rattle.answers.specs.declared.answer.Answer.TheVariants.{Reply as Replied, M
 abbrev pub Asked : Type 0
 Asked = Result Command FsError
 
--- what was asked, and the answer
+-- what was asked, at which moment, and the answer
 pub record Exchange : Type 0 where
+  pub at : Instant
   pub asked : Asked
   pub answer : Answer
+
+-- all were asked at this moment
+abbrev pub AllAt : Instant → List Exchange → Type 0
+AllAt now [] = Unit {0}
+AllAt now (e ∷ es) = (e.at ≡ now) × AllAt now es
 
 -- the reply is an error
 abbrev pub IsError : Reply → Type 0
@@ -75,12 +81,12 @@ abbrev pub latest : Tree → List Tree → Tree
 latest first [] = first
 latest first (tree ∷ trees) = tree
 
--- the trees are those that the answers leave, one after another from the first on
-abbrev pub IsSession : Instant → Tree → List Exchange → List Tree → Type 0
-IsSession now first [] [] = Unit {0}
-IsSession now first (e ∷ es) (tree ∷ trees) = Next (violated es) now (latest first trees) e.asked e.answer tree × IsSession now first es trees
-IsSession now first [] (tree ∷ trees) = ⊥
-IsSession now first (e ∷ es) [] = ⊥
+-- the trees are those that the answers leave, one after another from the first on, each asked at its moment
+abbrev pub IsSession : Tree → List Exchange → List Tree → Type 0
+IsSession first [] [] = Unit {0}
+IsSession first (e ∷ es) (tree ∷ trees) = Next (violated es) e.at (latest first trees) e.asked e.answer tree × IsSession first es trees
+IsSession first [] (tree ∷ trees) = ⊥
+IsSession first (e ∷ es) [] = ⊥
 
 abbrev pub is_sync : Command → Bool
 is_sync Sync = true

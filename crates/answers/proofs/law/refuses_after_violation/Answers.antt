@@ -5,4 +5,4 @@ pub returns : goal.returns
 returns g c =
     let M = g.H.Host.hosting in
     let laws = g.met.H.Host.lawful in
-    λ now old es new r e. (flags M laws now old es new r e, refusals M laws now old es new r e)
+    λ old es new r e. (flags M laws old es new r e, refusals M laws old es new r e)
