@@ -13,7 +13,7 @@ use Rattle.line_io.proofs.Flow.{appends-append, appends-nil}
 use Rattle.answers.specs.script_text.Grammar.{command_of}
 use Rattle.answers.specs.declared.answer.Answer.{Answer}
 use Rattle.answers.specs.Hosts.{Hosting, Ran}
-use Rattle.answers.specs.Sessions.{Exchange}
+use Rattle.answers.specs.Sessions.{Exchange, AllAt}
 use Rattle.answers.specs.Texts.{text_of_answer}
 use Rattle.session_lines.specs.declared.end.End.{End}
 use Rattle.session_lines.specs.declared.end.End.TheVariants.{Finished, InputFault, OutputFault}
@@ -44,10 +44,10 @@ pub After-none : (all : Option (List ℕ)) → After all [] all
 After-none None = refl
 After-none (Some bytes) = ([], bytes, refl, refl, refl, inl refl)
 
-After-line : (all : Option (List ℕ)) (es : List Exchange) (left : Option (List ℕ)) (line : List ℕ) (next : Option (List ℕ)) (answer : Answer)
-    → After all es left → Line left line next → After all (record { asked = command_of line; answer = answer } ∷ es) next
-After-line None es left line next answer a l = subst (λ (left : Option (List ℕ)). Line left line next) a l
-After-line (Some bytes) es left line next answer a l =
+After-line : (all : Option (List ℕ)) (es : List Exchange) (left : Option (List ℕ)) (line : List ℕ) (next : Option (List ℕ)) (now : Instant) (answer : Answer)
+    → After all es left → Line left line next → After all (record { at = now; asked = command_of line; answer = answer } ∷ es) next
+After-line None es left line next now answer a l = subst (λ (left : Option (List ℕ)). Line left line next) a l
+After-line (Some bytes) es left line next now answer a l =
     let m : Line (Some a.1) line next = subst (λ (left : Option (List ℕ)). Line left line next) a.4 l in (
       a.0 ++ line ∷ [],
       m.0,
@@ -87,14 +87,15 @@ wrote_more old mid new before text e f = f ∙ (ap (λ (w : Option (List ℕ)). 
 
 -- the turns so far, from the first moment on: the lines that are left, what was written, and the counts of faults of the input and the output
 pub record Turned {H : Type 0} (M : Hosting H) (moment : Instant) (first now : H) (coming left written shown : Option (List ℕ)) (a b x y : ℕ) (es : List Exchange) : Type 0 where
-  pub ran : Ran M moment first es now
+  pub ran : Ran M first es now
+  pub at : AllAt moment es
   pub after : After coming es left
   pub wrote : shown ≡ appends written (said_in es)
   pub input : b ≡ a
   pub output : y ≡ x
 
 pub turned_none : {H : Type 0} (M : Hosting H) (moment : Instant) (first : H) (coming written : Option (List ℕ)) (a x : ℕ) → Turned M moment first first coming coming written written a a x x []
-turned_none M moment first coming written a x = record { ran = refl; after = After-none coming; wrote = appends-nil written; input = refl; output = refl }
+turned_none M moment first coming written a x = record { ran = refl; at = tt; after = After-none coming; wrote = appends-nil written; input = refl; output = refl }
 
 pub turned_more : {H : Type 0} (M : Hosting H) (moment : Instant) (first now next : H) (coming left after mid end written shown new : Option (List ℕ)) (a b c x y z : ℕ) (es : List Exchange) (text : List ℕ)
     → Turned M moment first now coming left written shown a b x y es
@@ -103,10 +104,11 @@ pub turned_more : {H : Type 0} (M : Hosting H) (moment : Instant) (first now nex
 turned_more M moment first now next coming left after mid end written shown new a b c x y z es text t took =
     let line = took.0.0 in
     let answer = took.0.1.0 in (
-      record { asked = command_of line; answer = answer } ∷ es,
+      record { at = moment; asked = command_of line; answer = answer } ∷ es,
       record {
         ran = (now, t.ran, took.0.1.1);
-        after = After-line coming es left line after answer t.after took.0.2;
+        at = (refl, t.at);
+        after = After-line coming es left line after moment answer t.after took.0.2;
         wrote = wrote_more written shown new (said_in es) (text_of_answer answer) t.wrote (took.1 ∙ ap (appends shown) took.0.1.2);
         input = took.2 ∙ t.input;
         output = took.3 ∙ t.output;
@@ -131,7 +133,8 @@ pub stops : {H : Type 0} (M : Hosting H) (moment : Instant) (first now next : H)
     → Served M moment first next start coming (record { old = old; new = new; faults = a; risen = c }) (record { old = written; new = seen; faults = x; risen = z }) end
 stops M moment first now next coming left after start taken end_taken old mid new written shown seen a b c x y z es text Finished t s e f = (
   es,
-  subst (Ran M moment first es) (sym s.0) t.ran,
+  subst (Ran M first es) (sym s.0) t.ran,
+  t.at,
   record {
     asked = After-ends coming es left t.after s.1;
     ends = s.2;
@@ -142,7 +145,8 @@ stops M moment first now next coming left after start taken end_taken old mid ne
 )
 stops M moment first now next coming left after start taken end_taken old mid new written shown seen a b c x y z es text InputFault t s e f = (
   es,
-  subst (Ran M moment first es) (sym s.0) t.ran,
+  subst (Ran M first es) (sym s.0) t.ran,
+  t.at,
   record {
     asked = After-taken coming es left new t.after s.4;
     written = s.1 ∙ t.wrote;
@@ -153,11 +157,12 @@ stops M moment first now next coming left after start taken end_taken old mid ne
 stops M moment first now next coming left after start taken end_taken old mid new written shown seen a b c x y z es text OutputFault t s e f =
     let line = s.0.0 in
     let answer = s.0.1.0 in
-    let one : Exchange = record { asked = command_of line; answer = answer } in (
+    let one : Exchange = record { at = moment; asked = command_of line; answer = answer } in (
       one ∷ es,
       (now, t.ran, s.0.1.1),
+      (refl, t.at),
       record {
-        asked = After-begins coming (one ∷ es) after (After-line coming es left line after answer t.after s.0.2);
+        asked = After-begins coming (one ∷ es) after (After-line coming es left line after moment answer t.after s.0.2);
         written = subst (λ (w : Option (List ℕ)). Cut w seen (text_of_answer answer)) t.wrote (subst (Cut shown seen) s.0.1.2 s.1);
         cause = risen x y z t.output s.2;
         input_quiet = s.3 ∙ t.input;

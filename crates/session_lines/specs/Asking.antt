@@ -2,6 +2,7 @@
 use Rattle.std.specs.Prelude.{◌≡◌, ◌⊎◌, ℕ, List, [], ◌∷◌, ◌++◌, length, map, Ok}
 use Rattle.std.specs.declared.option.Option.{Option}
 use Rattle.std.specs.declared.option.Option.TheVariants.{None, Some}
+use Rattle.fs_model.specs.Instant.{Instant}
 use Rattle.outside.specs.Streams.{appends}
 use Rattle.line_io.specs.Lines.{lines, IsUnbroken}
 use Rattle.line_io.specs.Streams.{Cut}
@@ -55,11 +56,11 @@ abbrev pub CutLast : Option (List ℕ) → Option (List ℕ) → List Exchange �
 CutLast old new [] = ⊥
 CutLast old new (e ∷ es) = Cut (appends old (said_in es)) new (text_of_answer e.answer)
 
--- the answers, the newest first, are those to the generated commands from the first on
-abbrev pub generated : List Answer → List Exchange
-generated [] = []
-generated (answer ∷ answers) = record { asked = Ok (generated_of (length answers)); answer = answer } ∷ generated answers
+-- the answers, the newest first, are those to the generated commands from the first on, asked at this moment
+abbrev pub generated : Instant → List Answer → List Exchange
+generated now [] = []
+generated now (answer ∷ answers) = record { at = now; asked = Ok (generated_of (length answers)); answer = answer } ∷ generated now answers
 
--- one line, and its answer
-abbrev pub single : List ℕ → Answer → List Exchange
-single line answer = record { asked = command_of line; answer = answer } ∷ []
+-- one line, asked at this moment, and its answer
+abbrev pub single : Instant → List ℕ → Answer → List Exchange
+single now line answer = record { at = now; asked = command_of line; answer = answer } ∷ []

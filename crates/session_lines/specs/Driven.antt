@@ -8,7 +8,7 @@ use Rattle.line_io.specs.Streams.{Stream, HasFailed, TookMost, Cut}
 use Rattle.answers.specs.script_text.Grammar.{command_of}
 use Rattle.answers.specs.declared.answer.Answer.{Answer}
 use Rattle.answers.specs.Hosts.{Hosting, Ran}
-use Rattle.answers.specs.Sessions.{Exchange}
+use Rattle.answers.specs.Sessions.{Exchange, AllAt}
 use Rattle.answers.specs.Summaries.{Counts, summary_of, text_of_summary}
 use Rattle.answers.specs.Texts.{text_of_answer}
 use Rattle.session_lines.specs.declared.end.End.{End}
@@ -52,9 +52,9 @@ EndsAs taken coming input output es Finished = IsWholeSession coming input outpu
 EndsAs taken coming input output es InputFault = IsCutInput taken coming input output es
 EndsAs taken coming input output es OutputFault = IsCutOutput coming input output es
 
--- the lines that come were answered, one after another, until they ended
+-- the lines that come were answered, one after another at this moment, until they ended
 abbrev pub Served : {H : Type 0} → Hosting H → Instant → H → H → ℕ → Option (List ℕ) → Stream → Stream → End → Type 0
-Served M now old new taken coming input output end = (es : List Exchange) × Ran M now old es new × EndsAs taken coming input output es end
+Served M now old new taken coming input output end = (es : List Exchange) × Ran M old es new × AllAt now es × EndsAs taken coming input output es end
 
 -- the text was written whole, or in part where the sink failed
 abbrev pub Reported : Stream → List ℕ → End → Type 0
@@ -64,11 +64,11 @@ Reported output text OutputFault = Cut output.old output.new text × HasFailed o
 
 -- so many generated commands were answered, with these counts
 abbrev pub Summed : {H : Type 0} → Hosting H → Instant → H → H → ℕ → Counts → Type 0
-Summed M now old new count counts = (answers : List Answer) × Ran M now old (generated answers) new × (length answers ≡ count) × (counts ≡ summary_of answers)
+Summed M now old new count counts = (answers : List Answer) × Ran M old (generated now answers) new × (length answers ≡ count) × (counts ≡ summary_of answers)
 
 -- so many generated commands were answered, and the summary was written
 pub record IsGenerated {H : Type 0} (M : Hosting H) (now : Instant) (old new : H) (count : ℕ) (output : Stream) (end : End) (answers : List Answer) : Type 0 where
-  pub ran : Ran M now old (generated answers) new
+  pub ran : Ran M old (generated now answers) new
   pub all : length answers ≡ count
   pub written : Reported output (text_of_summary (summary_of answers)) end
 
@@ -77,7 +77,7 @@ Generated M now old new count output end = (answers : List Answer) × IsGenerate
 
 -- one line was answered, and the answer was written
 pub record IsSingle {H : Type 0} (M : Hosting H) (now : Instant) (old new : H) (line : List ℕ) (output : Stream) (end : End) (answer : Answer) : Type 0 where
-  pub ran : Ran M now old (single line answer) new
+  pub ran : Ran M old (single now line answer) new
   pub written : Reported output (text_of_answer answer) end
 
 abbrev pub AnsweredOne : {H : Type 0} → Hosting H → Instant → H → H → List ℕ → Stream → End → Type 0
