@@ -19,8 +19,8 @@ use Rattle.trial_runs.specs.Plain.{ArePlain, plain}
 use Rattle.trial_runs.specs.Runs.{Tried, GeneratedOnPlain, status_of}
 
 -- these trees are those that the exchanges leave, and the last of them is there
-record IsPlainSession (now : Instant) (first : Tree) (es : List Exchange) (present : Tree) (trees : List Tree) : Type 0 where
-  session : IsSession now first es trees
+record IsPlainSession (first : Tree) (es : List Exchange) (present : Tree) (trees : List Tree) : Type 0 where
+  session : IsSession first es trees
   plain : ArePlain es
   last : present ≡ latest first trees
 
@@ -29,17 +29,17 @@ no_violation [] p = refl
 no_violation (e ∷ es) p = ap (λ (b : Bool). b || violated es) (calm e.answer p.0) ∙ no_violation es p.1
 
 -- what a plain tree went through is a session
-session_of : {H : Type 0} (tree : H → Tree) (now : Instant) (old : H) (es : List Exchange) (new : H) → Ran (plain tree) now old es new
-    → (trees : List Tree) × IsPlainSession now (tree old) es (tree new) trees
-session_of tree now old [] new r = ([], record { session = tt; plain = tt; last = ap tree r })
-session_of tree now old (e ∷ es) new r =
-    let before = session_of tree now old es r.0 r.1 in
+session_of : {H : Type 0} (tree : H → Tree) (old : H) (es : List Exchange) (new : H) → Ran (plain tree) old es new
+    → (trees : List Tree) × IsPlainSession (tree old) es (tree new) trees
+session_of tree old [] new r = ([], record { session = tt; plain = tt; last = ap tree r })
+session_of tree old (e ∷ es) new r =
+    let before = session_of tree old es r.0 r.1 in
     let s = before.1 in (
       tree new ∷ before.0,
       record {
         session = (
-          subst (λ (b : Bool). Next b now (latest (tree old) before.0) e.asked e.answer (tree new)) (sym (no_violation es s.plain))
-              (subst (λ (t : Tree). Next false now t e.asked e.answer (tree new)) s.last r.2.1),
+          subst (λ (b : Bool). Next b e.at (latest (tree old) before.0) e.asked e.answer (tree new)) (sym (no_violation es s.plain))
+              (subst (λ (t : Tree). Next false e.at t e.asked e.answer (tree new)) s.last r.2.1),
           s.session,
         );
         plain = (r.2.0, s.plain);
@@ -58,30 +58,31 @@ pub tried : (now : Instant) (old new : Trial) (reader : Reading) (input output :
     → Served (plain (λ (t : Trial). t.tree)) now old new reader.taken (coming reader.ahead input.old) input output end
     → Tried now input output status
 tried now old new reader input output end status t f u s =
-    let h = session_of (λ (t : Trial). t.tree) now old s.0 new s.1 in
+    let h = session_of (λ (t : Trial). t.tree) old s.0 new s.1 in
     inr (
       end,
       u,
       s.0,
       h.0,
       record {
-        replies = subst (λ (first : Tree). IsSession now first s.0 h.0) t h.1.session;
+        replies = subst (λ (first : Tree). IsSession first s.0 h.0) t h.1.session;
+        moments = s.2;
         plain = h.1.plain;
-        ends = from_start reader input output s.0 end f s.2;
+        ends = from_start reader input output s.0 end f s.3;
       },
     )
 
 pub summed : (now : Instant) (count : ℕ) (old new : Trial) (output : Stream) (end : End) (status : Status) → old.tree ≡ empty_tree → status ≡ status_of end
     → Answered (plain (λ (t : Trial). t.tree)) now old new count output end → GeneratedOnPlain now count output status
 summed now count old new output end status t u s =
-    let h = session_of (λ (t : Trial). t.tree) now old (generated s.0) new s.1.ran in
+    let h = session_of (λ (t : Trial). t.tree) old (generated now s.0) new s.1.ran in
     inr (
       end,
       u,
       s.0,
       h.0,
       record {
-        replies = subst (λ (first : Tree). IsSession now first (generated s.0) h.0) t h.1.session;
+        replies = subst (λ (first : Tree). IsSession first (generated now s.0) h.0) t h.1.session;
         plain = h.1.plain;
         all = s.1.all;
         written = s.1.written;

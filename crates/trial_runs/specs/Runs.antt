@@ -4,7 +4,7 @@ use Rattle.fs_model.specs.Instant.{Instant}
 use Rattle.fs_model.specs.Tree.{Tree, empty_tree}
 use Rattle.session_lines.specs.line_io.Streams.{Stream, Untouched}
 use Rattle.answers.specs.declared.answer.Answer.{Answer}
-use Rattle.answers.specs.Sessions.{Exchange, IsSession}
+use Rattle.answers.specs.Sessions.{Exchange, AllAt, IsSession}
 use Rattle.answers.specs.Summaries.{summary_of, text_of_summary}
 use Rattle.session_lines.specs.Asking.{generated}
 use Rattle.session_lines.specs.Driven.{EndsAs, Reported}
@@ -20,9 +20,10 @@ status_of Finished = Done
 status_of InputEnd = InputFault
 status_of OutputEnd = OutputFault
 
--- the lines of the input, answered by a new plain tree; the newest exchanges and trees stand first
+-- the lines of the input, answered by a new plain tree at this moment; the newest exchanges and trees stand first
 pub record IsTrial (now : Instant) (input output : Stream) (end : End) (es : List Exchange) (trees : List Tree) : Type 0 where
-  pub replies : IsSession now empty_tree es trees
+  pub replies : IsSession empty_tree es trees
+  pub moments : AllAt now es
   pub plain : ArePlain es
   pub ends : EndsAs 0 input.old input output es end
 
@@ -31,10 +32,10 @@ abbrev pub Tried : Instant → Stream → Stream → Status → Type 0
 Tried now input output status = ((status ≡ Memory) × Untouched input × Untouched output)
     ⊎ ((end : End) × (status ≡ status_of end) × (es : List Exchange) × (trees : List Tree) × IsTrial now input output end es trees)
 
--- so many generated commands, answered by a new plain tree, and the summary of the answers
+-- so many generated commands, answered by a new plain tree at this moment, and the summary of the answers
 pub record IsGeneratedOnPlain (now : Instant) (count : ℕ) (output : Stream) (end : End) (answers : List Answer) (trees : List Tree) : Type 0 where
-  pub replies : IsSession now empty_tree (generated answers) trees
-  pub plain : ArePlain (generated answers)
+  pub replies : IsSession empty_tree (generated now answers) trees
+  pub plain : ArePlain (generated now answers)
   pub all : length answers ≡ count
   pub written : Reported output (text_of_summary (summary_of answers)) end
 
