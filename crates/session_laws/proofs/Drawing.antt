@@ -117,11 +117,11 @@ pub record KnownSoFar {V : Type 0} {K : Type 0} (trace : V → Option (List Call
   pub far : SealedSoFar trace G first start now mount
   pub unnamed : AreVectors far.fresh.drawn
 
-module _ {V : Type 0} {K : Type 0} (shows : Showing) (trace : V → Option (List Call)) (faults : V → ℕ) (G : KeeperGhosts K) (moment : Instant) (first : Stream) (start : View) where
+module _ {V : Type 0} {K : Type 0} (shows : Showing) (trace : V → Option (List Call)) (faults : V → ℕ) (G : KeeperGhosts K) (first : Stream) (start : View) where
   abbrev SoFar : Stream → Mount V K → Type 0
   SoFar now mount = SealedSoFar trace G first start now mount
 
-  module _ (now after : Stream) (old new : Mount V K) (asked : Asked) (answer : Answer) (x : SoFar now old) (line : MountAnswers shows trace faults G moment old asked answer new)
+  module _ (now after : Stream) (old new : Mount V K) (moment : Instant) (asked : Asked) (answer : Answer) (x : SoFar now old) (line : MountAnswers shows trace faults G moment old asked answer new)
       (fresh : SealsFresh now after (view_of trace old) (view_of trace new)) where
     abbrev Keeps : Option (List ℕ) → Type 0
     Keeps kept = HoldsSealed x.fresh.drawn start.list kept
@@ -152,15 +152,15 @@ module _ {V : Type 0} {K : Type 0} (shows : Showing) (trace : V → Option (List
     }
 
   module _ {H : Type 0} (mount : H → Mount V K) (stream : H → Stream) (chance : H → ℕ) where
-    sealed_lines : (old new : H) (es : List Exchange) → SoFar (stream old) (mount old) → Ran (drawing_hosting mount stream chance shows trace faults G) moment old es new → SoFar (stream new) (mount new)
+    sealed_lines : (old new : H) (es : List Exchange) → SoFar (stream old) (mount old) → Ran (drawing_hosting mount stream chance shows trace faults G) old es new → SoFar (stream new) (mount new)
     sealed_lines old new [] x r = subst (λ (h : H). SoFar (stream h) (mount h)) (sym r) x
-    sealed_lines old new (e ∷ es) x r = sealed_line (stream r.0) (stream new) (mount r.0) (mount new) e.asked e.answer (sealed_lines old r.0 es x r.1) r.2.0 r.2.1
+    sealed_lines old new (e ∷ es) x r = sealed_line (stream r.0) (stream new) (mount r.0) (mount new) e.at e.asked e.answer (sealed_lines old r.0 es x r.1) r.2.0 r.2.1
 
 -- what draws answers as a mount
-pub undrawing : {H : Type 0} {V : Type 0} {K : Type 0} (mount : H → Mount V K) (stream : H → Stream) (chance : H → ℕ) (shows : Showing) (trace : V → Option (List Call)) (faults : V → ℕ) (G : KeeperGhosts K) (now : Instant) (old new : H) (es : List Exchange)
-    → Ran (drawing_hosting mount stream chance shows trace faults G) now old es new → Ran (mount_hosting mount shows trace faults G) now old es new
-undrawing mount stream chance shows trace faults G now old new [] r = r
-undrawing mount stream chance shows trace faults G now old new (e ∷ es) r = (r.0, undrawing mount stream chance shows trace faults G now old r.0 es r.1, r.2.0)
+pub undrawing : {H : Type 0} {V : Type 0} {K : Type 0} (mount : H → Mount V K) (stream : H → Stream) (chance : H → ℕ) (shows : Showing) (trace : V → Option (List Call)) (faults : V → ℕ) (G : KeeperGhosts K) (old new : H) (es : List Exchange)
+    → Ran (drawing_hosting mount stream chance shows trace faults G) old es new → Ran (mount_hosting mount shows trace faults G) old es new
+undrawing mount stream chance shows trace faults G old new [] r = r
+undrawing mount stream chance shows trace faults G old new (e ∷ es) r = (r.0, undrawing mount stream chance shows trace faults G old r.0 es r.1, r.2.0)
 
 -- ---- a whole session
 
@@ -226,13 +226,13 @@ module _ {V : Type 0} {K : Type 0} (shows : Showing) (trace : V → Option (List
     unfolding draws_closed
     named_closed vectors = record { vectors = draws_closed; unnamed = vectors_then x.fresh.drawn [] vectors tt }
 
-pub draws_session : {H : Type 0} {V : Type 0} {K : Type 0} (mount : H → Mount V K) (stream : H → Stream) (chance : H → ℕ) (shows : Showing) (trace : V → Option (List Call)) (faults : V → ℕ) (G : KeeperGhosts K) (now : Instant) (password : List ℕ)
+pub draws_session : {H : Type 0} {V : Type 0} {K : Type 0} (mount : H → Mount V K) (stream : H → Stream) (chance : H → ℕ) (shows : Showing) (trace : V → Option (List Call)) (faults : V → ℕ) (G : KeeperGhosts K) (password : List ℕ)
     (vault last_vault : V) (keeper last_keeper : K) (old new : H) (es : List Exchange) (closing : Result Unit SyncError) → Begun shows trace faults G password vault keeper (mount old) → OpensSealed (G.kept keeper) (trace vault) (view_of trace (mount old))
-    → Ran (drawing_hosting mount stream chance shows trace faults G) now old es new → Closing shows trace faults G (mount new) closing last_vault last_keeper
+    → Ran (drawing_hosting mount stream chance shows trace faults G) old es new → Closing shows trace faults G (mount new) closing last_vault last_keeper
     → DrawsVectors (stream old) (stream new) (outside_of trace faults G vault keeper) (outside_of trace faults G last_vault last_keeper)
-draws_session mount stream chance shows trace faults G now password vault last_vault keeper last_keeper old new es closing begun opens ran closed =
+draws_session mount stream chance shows trace faults G password vault last_vault keeper last_keeper old new es closing begun opens ran closed =
     draws_closed shows trace faults G password vault keeper (stream old) (mount old) begun opens last_vault last_keeper (stream new) (mount new) closing closed
-    (sealed_lines shows trace faults G now (stream old) (record { list = opens.0; calls = trace vault; known = (view_of trace (mount old)).known }) mount stream chance old new es
+    (sealed_lines shows trace faults G (stream old) (record { list = opens.0; calls = trace vault; known = (view_of trace (mount old)).known }) mount stream chance old new es
     (sealed_opened shows trace faults G password vault keeper (stream old) (mount old) begun opens) ran)
 
 -- where none was opened

@@ -47,9 +47,9 @@ module _ (shows : Showing) (c : Settings) where
   ]
 
   serving : (run : Run) (from : Tree) (was : Bool) → IsRun shows run → IsUnforgedRun c run → OutsideStandsFor shows c from (before_of run) → Turned from was run
-  serving (session now password before after closing es) from was run u s =
+  serving (session password before after closing es) from was run u s =
       let a = run.founded c from (record { opens = record { stands = s; unforged_config = u.0 }; unforged = u.1 }) in
-      elim a.kept as (λ _. Turned from was (session now password before after closing es)) [
+      elim a.kept as (λ _. Turned from was (session password before after closing es)) [
         | inl m ↦ (from, inl (record { trees = a.trees; replies = a.replies; kept = inl (m.0, m.1, refl); no_false_alarm = a.no_false_alarm; built = a.built }), inr (or_left (violated es) was m.0, m.1))
         | inr k ↦ (k.0, inl (record { trees = a.trees; replies = a.replies; kept = inr (k.1, k.2); no_false_alarm = a.no_false_alarm; built = a.built }), inl k.2)
       ]
@@ -69,7 +69,7 @@ module _ (shows : Showing) (c : Settings) where
   )
 
   refusing : (run : Run) (from : Tree) (was : Bool) → was ≡ true → IsRun shows run → IsKeptMarked records (before_of run).kept → Turned from was run
-  refusing (session now password before after closing es) from was w run m =
+  refusing (session password before after closing es) from was w run m =
       absurd (loaded_unmarked before.kept run.attached.attached.state run.attached.attached.list run.attached.attached.loaded m)
   refusing (quiet password before after) from was w run m =
       let same = run.marked m in

@@ -7,7 +7,6 @@ use Rattle.mount.specs.aes_gcm.Gcm.{opened_of}
 use Rattle.run_frame.specs.answers.Hosts.{Hosting, Ran}
 use Rattle.run_frame.specs.answers.Sessions.{Exchange}
 use Rattle.mount.specs.config_file.Settings.{Settings, settings_of}
-use Rattle.fs_model.specs.Instant.{Instant}
 use Rattle.fs_model.specs.Tree.{Tree}
 use Rattle.mount.specs.block_versions.Forgeries.{forged}
 use Rattle.mount.proofs.Reading.{represents_told}
@@ -33,17 +32,17 @@ use Rattle.session_laws.specs.Forgeries.{forgeries_at, RoseAt, RightUntilForged}
 
 -- ---- up to the line in whose answer a count rises
 
-record Front {H : Type 0} (M : Hosting H) (count : H → ℕ) (now : Instant) (old last : H) (es : List Exchange) : Type 0 where
+record Front {H : Type 0} (M : Hosting H) (count : H → ℕ) (old last : H) (es : List Exchange) : Type 0 where
   pub earlier : List Exchange
   pub mid : H
-  pub ran : Ran M now old earlier mid
+  pub ran : Ran M old earlier mid
   pub few : count mid ≤ count old
-  pub until : ((es ≡ earlier) × (last ≡ mid)) ⊎ RoseAt M count now mid last earlier es
+  pub until : ((es ≡ earlier) × (last ≡ mid)) ⊎ RoseAt M count mid last earlier es
 
-module _ {H : Type 0} (M : Hosting H) (count : H → ℕ) (now : Instant) (old : H) where
+module _ {H : Type 0} (M : Hosting H) (count : H → ℕ) (old : H) where
   -- no line before this one raised it
-  by_count : (mid new : H) (e : Exchange) (es earlier : List Exchange) → Ran M now old earlier mid → count mid ≤ count old → es ≡ earlier → M.answers mid now e.asked e.answer new
-      → (count mid < count new) ⊎ (count new ≤ count mid) → Front M count now old new (e ∷ es)
+  by_count : (mid new : H) (e : Exchange) (es earlier : List Exchange) → Ran M old earlier mid → count mid ≤ count old → es ≡ earlier → M.answers mid e.at e.asked e.answer new
+      → (count mid < count new) ⊎ (count new ≤ count mid) → Front M count old new (e ∷ es)
   by_count mid new e es earlier ran few all answers (inl rose) = record {
     earlier = earlier;
     mid = mid;
@@ -59,10 +58,10 @@ module _ {H : Type 0} (M : Hosting H) (count : H → ℕ) (now : Instant) (old :
     until = inl (ap (λ x. e ∷ x) all, refl);
   }
 
-  one_more : (mid new : H) (e : Exchange) (es : List Exchange) → Ran M now old es mid → M.answers mid now e.asked e.answer new → (earlier : List Exchange) (at : H) → Ran M now old earlier at → count at ≤ count old
-      → ((es ≡ earlier) × (mid ≡ at)) ⊎ RoseAt M count now at mid earlier es → Front M count now old new (e ∷ es)
+  one_more : (mid new : H) (e : Exchange) (es : List Exchange) → Ran M old es mid → M.answers mid e.at e.asked e.answer new → (earlier : List Exchange) (at : H) → Ran M old earlier at → count at ≤ count old
+      → ((es ≡ earlier) × (mid ≡ at)) ⊎ RoseAt M count at mid earlier es → Front M count old new (e ∷ es)
   one_more mid new e es all_ran answers earlier at ran few (inl (all, same)) =
-      by_count at new e es earlier ran few all (subst (λ (h : H). M.answers h now e.asked e.answer new) same answers) (cases_lt (count at) (count new))
+      by_count at new e es earlier ran few all (subst (λ (h : H). M.answers h e.at e.asked e.answer new) same answers) (cases_lt (count at) (count new))
   one_more mid new e es all_ran answers earlier at ran few (inr rise) = record {
     earlier = earlier;
     mid = at;
@@ -79,20 +78,20 @@ module _ {H : Type 0} (M : Hosting H) (count : H → ℕ) (now : Instant) (old :
     });
   }
 
-  front : (last : H) (es : List Exchange) → Ran M now old es last → Front M count now old last es
+  front : (last : H) (es : List Exchange) → Ran M old es last → Front M count old last es
   front last [] r = record { earlier = []; mid = old; ran = refl; few = omega arith; until = inl (refl, r) }
   front last (e ∷ es) r = let f = front r.0 es r.1 in one_more r.0 last e es r.1 r.2 f.earlier f.mid f.ran f.few f.until
 
 -- ---- of a session
 
-module _ {V : Type 0} {K : Type 0} (shows : Showing) (trace : V → Option (List Call)) (faults : V → ℕ) (G : KeeperGhosts K) (now : Instant) (password : List ℕ) (vault last_vault : V) (keeper last_keeper : K)
-    (closing : Result Unit SyncError) (es : List Exchange) (m : OnMount shows trace faults G now password vault keeper closing last_vault last_keeper es)
+module _ {V : Type 0} {K : Type 0} (shows : Showing) (trace : V → Option (List Call)) (faults : V → ℕ) (G : KeeperGhosts K) (password : List ℕ) (vault last_vault : V) (keeper last_keeper : K)
+    (closing : Result Unit SyncError) (es : List Exchange) (m : OnMount shows trace faults G password vault keeper closing last_vault last_keeper es)
     (c : Settings) (first : Tree) (f : OpensTo shows password c first (outside_of trace faults G vault keeper) (outside_of trace faults G last_vault last_keeper)) where
   abbrev Serving : Hosting (Mount V K)
   Serving = mount_hosting (λ (x : Mount V K). x) shows trace faults G
 
-  went : (mid : Mount V K) (earlier : List Exchange) → Ran Serving now m.opened earlier mid → Passed shows trace faults G now m.opened mid earlier
-  went mid earlier ran = passed (λ (x : Mount V K). x) shows trace faults G now m.opened mid earlier m.begun.opened.fresh ran
+  went : (mid : Mount V K) (earlier : List Exchange) → Ran Serving m.opened earlier mid → Passed shows trace faults G m.opened mid earlier
+  went mid earlier ran = passed (λ (x : Mount V K). x) shows trace faults G m.opened mid earlier m.begun.opened.fresh ran
 
   is_opened : settings_of m.opened.opened.config ≡ c
   is_opened =
@@ -104,12 +103,12 @@ module _ {V : Type 0} {K : Type 0} (shows : Showing) (trace : V → Option (List
   stood = m.begun.stands.tree first (subst (λ x. Represents shows (G.kept keeper) (trace vault) x first) (sym is_opened) f.stands)
 
   -- the store stays that of its configuration
-  same_identity : (mid : Mount V K) (earlier : List Exchange) → Ran Serving now m.opened earlier mid → (tower_durables trace).identity (store_of mid) ≡ (tower_durables trace).identity (store_of m.opened)
+  same_identity : (mid : Mount V K) (earlier : List Exchange) → Ran Serving m.opened earlier mid → (tower_durables trace).identity (store_of mid) ≡ (tower_durables trace).identity (store_of m.opened)
   same_identity mid [] r = ap (λ (x : Mount V K). (tower_durables trace).identity (store_of x)) r
   same_identity mid (e ∷ earlier) r = r.2.line.store.identity ∙ same_identity r.0 earlier r.1
 
   -- so its count of forgeries is that of its calls
-  counts : (mid : Mount V K) (earlier : List Exchange) → Ran Serving now m.opened earlier mid → forgeries_of trace faults mid ≡ forgeries_at trace c mid
+  counts : (mid : Mount V K) (earlier : List Exchange) → Ran Serving m.opened earlier mid → forgeries_of trace faults mid ≡ forgeries_at trace c mid
   counts mid earlier r =
       ap (λ (i : Identity). count_told (forged i.opens i.size) (calls_of trace mid)) (same_identity mid earlier r ∙ m.begun.opened.ready.identity)
       ∙ ap (λ (s : Settings). count_told (forged (opened_of s.key) s.block_size) (calls_of trace mid)) is_opened
@@ -117,14 +116,14 @@ module _ {V : Type 0} {K : Type 0} (shows : Showing) (trace : V → Option (List
   at_first : forgeries_of trace faults m.opened ≡ forgeries c (outside_of trace faults G vault keeper)
   at_first = m.begun.calls.forgeries ∙ ap (λ (s : Settings). count_told (forged (opened_of s.key) s.block_size) (trace vault)) is_opened
 
-  pub right : RightUntilForged shows trace faults G now c first (forgeries c (outside_of trace faults G vault keeper)) m.opened m.left es
+  pub right : RightUntilForged shows trace faults G c first (forgeries c (outside_of trace faults G vault keeper)) m.opened m.left es
   right =
-      let u = front Serving (forgeries_at trace c) now m.opened m.left es m.ran in
+      let u = front Serving (forgeries_at trace c) m.opened m.left es m.ran in
       let p = went u.mid u.earlier u.ran in
       let here = counts u.mid u.earlier u.ran in
       let there = counts m.opened [] refl in
       let few : forgeries_of trace faults u.mid ≤ forgeries_of trace faults m.opened = omega (arith, here, there, u.few) in
-      let t : PassedTrees shows trace faults G now m.opened u.mid first u.earlier = p.passes first stood few in
+      let t : PassedTrees shows trace faults G m.opened u.mid first u.earlier = p.passes first stood few in
       record {
         earlier = u.earlier;
         mount = u.mid;

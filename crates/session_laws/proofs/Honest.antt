@@ -30,14 +30,14 @@ config_unforged : (password : List ℕ) (c : Settings) (before after : Outside) 
 config_unforged password c before after opens honest = only_unforged password before.kept before.calls after.calls c (config_only password c before after opens honest)
 
 pub one_opens_only : (c : Settings) (run : Run) → IsHonestRun c run → OpensOnly c run
-one_opens_only c (session now password before after closing es) h = config_only password c before after h.opens h.gave
+one_opens_only c (session password before after closing es) h = config_only password c before after h.opens h.gave
 one_opens_only c (quiet password before after) h = config_only password c before after h.opens h.gave
 one_opens_only c (examined password before after bad) h = config_only password c before after h.opens h.gave
 one_opens_only c (migrated password before after bad) h = config_only password c before after h.opens h.gave
 
 module _ (shows : Showing) (c : Settings) where
   pub one_unforged : (tree : Tree) (run : Run) → IsRun shows run → OutsideStandsFor shows c tree (before_of run) → IsHonestRun c run → IsUnforgedRun c run
-  one_unforged tree (session now password before after closing es) run stands h =
+  one_unforged tree (session password before after closing es) run stands h =
       let config = config_unforged password c before after h.opens h.gave in
       (config, run.unforged c tree (record { stands = stands; unforged_config = config }) h.gave)
   one_unforged tree (quiet password before after) run stands h = config_unforged password c before after h.opens h.gave
@@ -48,7 +48,7 @@ module _ (shows : Showing) (c : Settings) where
 
   -- over a marked record no session is opened, and no call made
   marked_unforged : (run : Run) → IsRun shows run → IsKeptMarked records (before_of run).kept → IsHonestRun c run → IsUnforgedRun c run
-  marked_unforged (session now password before after closing es) run m h =
+  marked_unforged (session password before after closing es) run m h =
       absurd (loaded_unmarked before.kept run.attached.attached.state run.attached.attached.list run.attached.attached.loaded m)
   marked_unforged (quiet password before after) run m h = config_unforged password c before after h.opens h.gave
   marked_unforged (examined password before after bad) run m h = config_unforged password c before after h.opens h.gave
@@ -68,8 +68,8 @@ module _ (shows : Showing) (c : Settings) where
       (all.0, unforged, all.2, before)
 
   pub one_calm : (tree : Tree) (run : Run) → IsRun shows run → OutsideStandsFor shows c tree (before_of run) → IsHonestRun c run → condemns run ≡ false
-  one_calm tree (session now password before after closing es) run stands h =
-      let unforged = one_unforged tree (session now password before after closing es) run stands h in
+  one_calm tree (session password before after closing es) run stands h =
+      let unforged = one_unforged tree (session password before after closing es) run stands h in
       let answers = run.founded c tree (record { opens = record { stands = stands; unforged_config = unforged.0 }; unforged = unforged.1 }) in
       unviolated es (answers.no_false_alarm h.gave)
   one_calm tree (quiet password before after) run stands h = refl

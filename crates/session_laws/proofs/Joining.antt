@@ -65,35 +65,35 @@ refused_not_synced : (asked : Asked) → is_synced asked Refused ≡ false
 refused_not_synced (Ok command) = and_false (is_sync command)
 refused_not_synced (Err error) = refl
 
-pub latest_kept : (now : Instant) (first : Tree) (es : List Exchange) (trees : List Tree) → IsSession now first es trees → IsKeptPoint first es trees (latest first trees)
-latest_kept now first [] [] s = refl
-latest_kept now first (e ∷ es) (tree ∷ trees) s = inl refl
-latest_kept now first [] (tree ∷ trees) s = absurd s
-latest_kept now first (e ∷ es) [] s = absurd s
+pub latest_kept : (first : Tree) (es : List Exchange) (trees : List Tree) → IsSession first es trees → IsKeptPoint first es trees (latest first trees)
+latest_kept first [] [] s = refl
+latest_kept first (e ∷ es) (tree ∷ trees) s = inl refl
+latest_kept first [] (tree ∷ trees) s = absurd s
+latest_kept first (e ∷ es) [] s = absurd s
 
-module _ {V : Type 0} {K : Type 0} (shows : Showing) (trace : V → Option (List Call)) (faults : V → ℕ) (G : KeeperGhosts K) (now : Instant) where
-  refused_of : (mid new : Mount V K) (asked : Asked) (answer : Answer) → MountAnswers shows trace faults G now mid asked answer new → mid.core.violated ≡ true → (answer ≡ Refused) × (new ≡ mid)
-  refused_of mid new asked answer a v = let r = a.line.form.refused v in (r.0, same_mount mid new a.opened r.1)
+module _ {V : Type 0} {K : Type 0} (shows : Showing) (trace : V → Option (List Call)) (faults : V → ℕ) (G : KeeperGhosts K) where
+  refused_of : (mid new : Mount V K) (now : Instant) (asked : Asked) (answer : Answer) → MountAnswers shows trace faults G now mid asked answer new → mid.core.violated ≡ true → (answer ≡ Refused) × (new ≡ mid)
+  refused_of mid new now asked answer a v = let r = a.line.form.refused v in (r.0, same_mount mid new a.opened r.1)
 
-  is_answer : (mid new : Mount V K) (asked : Asked) (answer : Answer) → MountAnswers shows trace faults G now mid asked answer new → IsAnswerTo asked answer
-  is_answer mid new (Ok command) answer a = (a.line.form.variant, on_spent answer _ _ (λ cause. cause.changes) a.line.store.spent)
-  is_answer mid new (Err error) answer a = a.line.form.unread.0
+  is_answer : (mid new : Mount V K) (now : Instant) (asked : Asked) (answer : Answer) → MountAnswers shows trace faults G now mid asked answer new → IsAnswerTo asked answer
+  is_answer mid new now (Ok command) answer a = (a.line.form.variant, on_spent answer _ _ (λ cause. cause.changes) a.line.store.spent)
+  is_answer mid new now (Err error) answer a = a.line.form.unread.0
 
   -- where the answer is Spent, a version stood at the last of 64 bits
-  last_of : (mid new : Mount V K) (asked : Asked) (answer : Answer) → MountAnswers shows trace faults G now mid asked answer new → OnSpent answer ((id : List ℕ) × (version_of trace mid id + 1 ≡ 2 ^ 64))
-  last_of mid new (Ok command) answer a = on_spent answer _ _ (λ cause. (cause.id, cause.last)) a.line.store.spent
-  last_of mid new (Err error) answer a = unread_spent error answer _ a.line.form.unread.0
+  last_of : (mid new : Mount V K) (now : Instant) (asked : Asked) (answer : Answer) → MountAnswers shows trace faults G now mid asked answer new → OnSpent answer ((id : List ℕ) × (version_of trace mid id + 1 ≡ 2 ^ 64))
+  last_of mid new now (Ok command) answer a = on_spent answer _ _ (λ cause. (cause.id, cause.last)) a.line.store.spent
+  last_of mid new now (Err error) answer a = unread_spent error answer _ a.line.form.unread.0
 
   left_on : (new : Mount V K) (first : Tree) (e : Exchange) (es : List Exchange) (trees : List Tree) (kept next : Tree) (bad synced : Bool)
-      → is_violation e.answer ≡ bad → is_synced e.asked e.answer ≡ synced → IsSession now first es trees → IsKeptPoint first es trees kept
+      → is_violation e.answer ≡ bad → is_synced e.asked e.answer ≡ synced → IsSession first es trees → IsKeptPoint first es trees kept
       → Left shows (tower trace faults G) new.core kept (latest first trees) next bad synced
       → LeftAt shows trace faults G new first (e ∷ es) (next ∷ trees) (bad || false)
   left_on new first e es trees kept next true synced eb ey s k (inl m) = inl m
   left_on new first e es trees kept next true synced eb ey s k (inr (inl r)) = inr (kept, inr (violation_not_synced e.asked e.answer eb, k), r)
-  left_on new first e es trees kept next true synced eb ey s k (inr (inr r)) = inr (latest first trees, inr (violation_not_synced e.asked e.answer eb, latest_kept now first es trees s), r)
+  left_on new first e es trees kept next true synced eb ey s k (inr (inr r)) = inr (latest first trees, inr (violation_not_synced e.asked e.answer eb, latest_kept first es trees s), r)
   left_on new first e es trees kept next false true eb ey s k m = (next, inl refl, m)
   left_on new first e es trees kept next false false eb ey s k (inl m) = (kept, inr (ey, k), m)
-  left_on new first e es trees kept next false false eb ey s k (inr m) = (latest first trees, inr (ey, latest_kept now first es trees s), m)
+  left_on new first e es trees kept next false false eb ey s k (inr m) = (latest first trees, inr (ey, latest_kept first es trees s), m)
 
   left_refused : (mid new : Mount V K) (e : Exchange) (es : List Exchange) (first : Tree) (trees : List Tree) → is_synced e.asked e.answer ≡ false → new ≡ mid
       → LeftAt shows trace faults G mid first es trees true → LeftAt shows trace faults G new first (e ∷ es) (latest first trees ∷ trees) true
@@ -101,44 +101,44 @@ module _ {V : Type 0} {K : Type 0} (shows : Showing) (trace : V → Option (List
   left_refused mid new e es first trees ns is (inr k) = inr (k.0, inr (ns, k.1), subst (λ (m : Mount V K). MountKeeps shows trace G m k.0) (sym is) k.2)
 
   trees_on : (old mid new : Mount V K) (e : Exchange) (es : List Exchange) (first : Tree) (flag : Bool) → violated es ≡ flag → mid.core.violated ≡ flag
-      → MountAnswers shows trace faults G now mid e.asked e.answer new → forgeries_of trace faults new ≤ forgeries_of trace faults mid → lies_of trace faults old ≤ lies_of trace faults mid
-      → (trees : List Tree) → IsSession now first es trees → LeftAt shows trace faults G mid first es trees flag → (lies_of trace faults mid ≤ lies_of trace faults old → flag ≡ false) → AreBuilt es
-      → PassedTrees shows trace faults G now old new first (e ∷ es)
+      → MountAnswers shows trace faults G e.at mid e.asked e.answer new → forgeries_of trace faults new ≤ forgeries_of trace faults mid → lies_of trace faults old ≤ lies_of trace faults mid
+      → (trees : List Tree) → IsSession first es trees → LeftAt shows trace faults G mid first es trees flag → (lies_of trace faults mid ≤ lies_of trace faults old → flag ≡ false) → AreBuilt es
+      → PassedTrees shows trace faults G old new first (e ∷ es)
   trees_on old mid new e es first false ev em a few grew trees s left honest built =
-      let t : LineAnswered shows trace faults G now new left.0 (latest first trees) e.asked e.answer = a.line.trees.stands left.0 (latest first trees) em left.2 few in
+      let t : LineAnswered shows trace faults G e.at new left.0 (latest first trees) e.asked e.answer = a.line.trees.stands left.0 (latest first trees) em left.2 few in
       record {
         trees = t.next ∷ trees;
-        session = (subst (λ b. Next b now (latest first trees) e.asked e.answer t.next) (sym ev) t.follows, s);
+        session = (subst (λ b. Next b e.at (latest first trees) e.asked e.answer t.next) (sym ev) t.follows, s);
         left = subst (λ b. LeftAt shows trace faults G new first (e ∷ es) (t.next ∷ trees) (is_violation e.answer || b)) (sym ev)
             (left_on new first e es trees left.0 t.next _ _ refl refl s left.1 t.left);
         alarm = λ h. ap (λ (b : Bool). is_violation e.answer || b) ev ∙ ap (λ (b : Bool). b || false) (a.line.trees.alarm left.0 (latest first trees) em left.2 (omega (arith, grew, h)));
         built = (a.line.trees.built left.0 (latest first trees) em left.2 few, built);
       }
   trees_on old mid new e es first true ev em a few grew trees s left honest built =
-      let r = refused_of mid new e.asked e.answer a em in
+      let r = refused_of mid new e.at e.asked e.answer a em in
       let ns : is_synced e.asked e.answer ≡ false = subst (λ x. is_synced e.asked x ≡ false) (sym r.0) (refused_not_synced e.asked) in
       record {
         trees = latest first trees ∷ trees;
-        session = (subst (λ b. Next b now (latest first trees) e.asked e.answer (latest first trees)) (sym ev) (r.0, refl), s);
+        session = (subst (λ b. Next b e.at (latest first trees) e.asked e.answer (latest first trees)) (sym ev) (r.0, refl), s);
         left = subst (λ b. LeftAt shows trace faults G new first (e ∷ es) (latest first trees ∷ trees) b) (sym (ap (λ x. is_violation x || violated es) r.0 ∙ ev))
             (left_refused mid new e es first trees ns r.1 left);
         alarm = λ h. absurd (true_is_false (honest (omega (arith, a.line.store.lies, h))));
         built = (ap is_structure r.0, built);
       }
 
-  marked_on : (old mid new : Mount V K) (e : Exchange) (es : List Exchange) → Passed shows trace faults G now old mid es → MountAnswers shows trace faults G now mid e.asked e.answer new
+  marked_on : (old mid new : Mount V K) (e : Exchange) (es : List Exchange) → Passed shows trace faults G old mid es → MountAnswers shows trace faults G e.at mid e.asked e.answer new
       → (bad : Bool) → is_violation e.answer ≡ bad → (bad || violated es) ≡ true
       → IsKeptMarked records (kept_of G new) ⊎ RoseBy (state_faults e.answer + all_state_faults es + 1) (keeper_faults G old) (keeper_faults G new)
   marked_on old mid new e es p a true eb h =
       elim (a.line.saver.marked eb) [ inl m ↦ inl m | inr r ↦ inr (let z = violation_no_fault e.answer eb in omega (arith, z, r, p.keeper_cause)) ]
   marked_on old mid new e es p a false eb h =
-      let r = refused_of mid new e.asked e.answer a (p.flag ∙ h) in
+      let r = refused_of mid new e.at e.asked e.answer a (p.flag ∙ h) in
       elim (p.marked h) [
         | inl m ↦ inl (subst (λ (x : Mount V K). IsKeptMarked records (kept_of G x)) (sym r.1) m)
         | inr q ↦ inr (let z : state_faults e.answer ≡ 0 = ap state_faults r.0 in let k : keeper_faults G new ≡ keeper_faults G mid = ap (keeper_faults G) r.1 in omega (arith, z, q, k))
       ]
 
-  keeps_on : (old mid new : Mount V K) (e : Exchange) (es : List Exchange) → Passed shows trace faults G now old mid es → MountAnswers shows trace faults G now mid e.asked e.answer new
+  keeps_on : (old mid new : Mount V K) (e : Exchange) (es : List Exchange) → Passed shows trace faults G old mid es → MountAnswers shows trace faults G e.at mid e.asked e.answer new
       → ((tower_durables trace).identity (store_of old)).marked ≡ false → KeptAfter (is_violation e.answer || violated es) (λ id. version_of trace old id + length (e ∷ es)) (kept_of G old) (kept_of G new)
   keeps_on old mid new e es p a unmarked =
       kept_line trace G (store_of mid) (ap (λ (i : Identity). i.marked) p.identity ∙ unmarked) (kept_of G old) mid.core.saver new.core.saver (violated es) e.answer (is_violation e.answer) refl (is_violation e.answer || violated es)
@@ -146,31 +146,31 @@ module _ {V : Type 0} {K : Type 0} (shows : Showing) (trace : V → Option (List
       (λ id. omega arith) (λ id. let r = p.rose id in omega (arith, r)) (p.keeps unmarked) a.line.keeps
 
   configures_on : (mid new : Mount V K) (e : Exchange) (es : List Exchange) (may : List (List ℕ)) (present : List ℕ) (flag : Bool) → violated es ≡ flag → mid.core.violated ≡ flag
-      → MountAnswers shows trace faults G now mid e.asked e.answer new → ConfigAnswered (tower_holdings trace) (tower_durables trace) records G mid.core may present flag
+      → MountAnswers shows trace faults G e.at mid e.asked e.answer new → ConfigAnswered (tower_holdings trace) (tower_durables trace) records G mid.core may present flag
       → ConfigAnswered (tower_holdings trace) (tower_durables trace) records G new.core may present (is_violation e.answer || violated es)
   configures_on mid new e es may present false ev em a c =
       subst (λ b. ConfigAnswered (tower_holdings trace) (tower_durables trace) records G new.core may present b) (sym (or_false (is_violation e.answer) (violated es) ev)) (a.line.trees.configures may present c)
   configures_on mid new e es may present true ev em a c =
-      let r = refused_of mid new e.asked e.answer a em in
+      let r = refused_of mid new e.at e.asked e.answer a em in
       subst (λ b. ConfigAnswered (tower_holdings trace) (tower_durables trace) records G new.core may present b) (sym (ap (λ x. is_violation x || violated es) r.0 ∙ ev))
       (subst (λ (x : Mount V K). ConfigAnswered (tower_holdings trace) (tower_durables trace) records G x.core may present true) (sym r.1) c)
 
   -- before a violation the mount stands for trees, so that the next answer brings no forgery where it brings no lie
   unforged_at : (mid new : Mount V K) (e : Exchange) (es : List Exchange) (first : Tree) (trees : List Tree) (flag : Bool) → flag ≡ false → mid.core.violated ≡ flag → LeftAt shows trace faults G mid first es trees flag
-      → MountAnswers shows trace faults G now mid e.asked e.answer new → lies_of trace faults new ≤ lies_of trace faults mid → forgeries_of trace faults new ≤ forgeries_of trace faults mid
+      → MountAnswers shows trace faults G e.at mid e.asked e.answer new → lies_of trace faults new ≤ lies_of trace faults mid → forgeries_of trace faults new ≤ forgeries_of trace faults mid
   unforged_at mid new e es first trees true f em left a honest = absurd (true_is_false f)
   unforged_at mid new e es first trees false f em left a honest = a.line.store.unforged left.2.sound honest
 
-  unforged_on : (old mid new : Mount V K) (e : Exchange) (es : List Exchange) (first : Tree) → Passed shows trace faults G now old mid es → MountAnswers shows trace faults G now mid e.asked e.answer new
+  unforged_on : (old mid new : Mount V K) (e : Exchange) (es : List Exchange) (first : Tree) → Passed shows trace faults G old mid es → MountAnswers shows trace faults G e.at mid e.asked e.answer new
       → TowerStands shows trace faults G old.core first first → lies_of trace faults new ≤ lies_of trace faults old → forgeries_of trace faults new ≤ forgeries_of trace faults old
   unforged_on old mid new e es first p a stands honest =
       let before : lies_of trace faults mid ≤ lies_of trace faults old = omega (arith, honest, a.line.store.lies) in
       let few = p.unforged first stands before in
-      let t : PassedTrees shows trace faults G now old mid first es = p.passes first stands few in
+      let t : PassedTrees shows trace faults G old mid first es = p.passes first stands few in
       let step = unforged_at mid new e es first t.trees (violated es) (t.alarm before) p.flag t.left a (omega (arith, honest, p.lies)) in
       omega (arith, few, step)
 
-  pub passed_none : (mount : Mount V K) → mount.core.violated ≡ false → Passed shows trace faults G now mount mount []
+  pub passed_none : (mount : Mount V K) → mount.core.violated ≡ false → Passed shows trace faults G mount mount []
   passed_none mount fresh = record {
     flag = fresh;
     answered = tt;
@@ -180,7 +180,7 @@ module _ {V : Type 0} {K : Type 0} (shows : Showing) (trace : V → Option (List
     identity = refl;
     level = refl;
     least = λ k. k;
-    rests = λ none idle. rested_none shows trace faults G now mount none;
+    rests = λ none idle. rested_none shows trace faults G mount none;
     goes_on = goes_on_same (calls_of trace mount);
     forgeries = omega arith;
     lies = omega arith;
@@ -195,18 +195,18 @@ module _ {V : Type 0} {K : Type 0} (shows : Showing) (trace : V → Option (List
     passes = λ first stands few. record { trees = []; session = tt; left = (first, refl, stands); alarm = λ h. refl; built = tt };
   }
 
-  pub passed_on : (old mid new : Mount V K) (e : Exchange) (es : List Exchange) → Passed shows trace faults G now old mid es → MountAnswers shows trace faults G now mid e.asked e.answer new
-      → Passed shows trace faults G now old new (e ∷ es)
+  pub passed_on : (old mid new : Mount V K) (e : Exchange) (es : List Exchange) → Passed shows trace faults G old mid es → MountAnswers shows trace faults G e.at mid e.asked e.answer new
+      → Passed shows trace faults G old new (e ∷ es)
   passed_on old mid new e es p a = record {
     flag = a.line.form.violated ∙ ap (λ (b : Bool). is_violation e.answer || b) p.flag;
-    answered = (is_answer mid new e.asked e.answer a, p.answered);
+    answered = (is_answer mid new e.at e.asked e.answer a, p.answered);
     rose = rose_on (version_of trace old) e es (version_of trace mid) p.rose (version_of trace new) a.line.store.raised;
-    spent = spent_on (version_of trace old) e es (version_of trace mid) p.rose (last_of mid new e.asked e.answer a) p.spent;
+    spent = spent_on (version_of trace old) e es (version_of trace mid) p.rose (last_of mid new e.at e.asked e.answer a) p.spent;
     opened = a.opened ∙ p.opened;
     identity = a.line.store.identity ∙ p.identity;
     level = a.line.store.least ∙ p.level;
     least = λ k. stays_at trace faults G ((tower_durables trace).least (store_of old)) (store_of mid) (kept_of G mid) (kept_of G new) p.level a.line.saver.least (p.least k);
-    rests = λ none idle. rested_on shows trace faults G now old mid new e es (p.rests none idle.2) p.flag a idle;
+    rests = λ none idle. rested_on shows trace faults G old mid new e es (p.rests none idle.2) p.flag a idle;
     goes_on = goes_on_onward (calls_of trace old) (calls_of trace mid) (calls_of trace new) p.goes_on a.line.store.goes_on;
     forgeries = omega (arith, p.forgeries, a.line.store.forgeries);
     lies = omega (arith, p.lies, a.line.store.lies);
@@ -219,6 +219,6 @@ module _ {V : Type 0} {K : Type 0} (shows : Showing) (trace : V → Option (List
     configures = λ may present c. configures_on mid new e es may present (violated es) refl p.flag a (p.configures may present c);
     unforged = λ first stands honest. unforged_on old mid new e es first p a stands honest;
     passes = λ first stands few.
-        let t : PassedTrees shows trace faults G now old mid first es = p.passes first stands (omega (arith, few, a.line.store.forgeries)) in
+        let t : PassedTrees shows trace faults G old mid first es = p.passes first stands (omega (arith, few, a.line.store.forgeries)) in
         trees_on old mid new e es first (violated es) refl p.flag a (omega (arith, few, p.forgeries)) p.lies t.trees t.session t.left t.alarm t.built;
   }

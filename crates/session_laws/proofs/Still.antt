@@ -65,7 +65,7 @@ pub went_got : (h : Held) (old new : Option (List Call)) → WentOnByReads h old
 went_got h None new w = w
 went_got h (Some old) new w = (w.0, w.1, all_gets h w.0 w.2)
 
-module _ {V : Type 0} {K : Type 0} (shows : Showing) (trace : V → Option (List Call)) (faults : V → ℕ) (G : KeeperGhosts K) (now : Instant) where
+module _ {V : Type 0} {K : Type 0} (shows : Showing) (trace : V → Option (List Call)) (faults : V → ℕ) (G : KeeperGhosts K) where
   pub loaded_got : (a b : Cached V) → (tower_meanings trace faults).loaded a b → OnlyGot (trace_in trace a) (trace_in trace b)
   loaded_got a b loaded = went_got (held_in a) (trace_in trace a) (trace_in trace b) loaded.trace
 
@@ -75,9 +75,9 @@ module _ {V : Type 0} {K : Type 0} (shows : Showing) (trace : V → Option (List
   rested_same : (mid new : Mount V K) → mid.core.saver.changed ≡ false → new ≡ mid → Rested trace faults mid new
   rested_same mid new none e = subst (λ (m : Mount V K). Rested trace faults mid m) (sym e) (rested_none mid none)
 
-  undone : (mid new : Mount V K) (asked : Asked) (answer : Answer) → MountAnswers shows trace faults G now mid asked answer new → mid.core.saver.changed ≡ false → is_violation answer ≡ false
+  undone : (mid new : Mount V K) (now : Instant) (asked : Asked) (answer : Answer) → MountAnswers shows trace faults G now mid asked answer new → mid.core.saver.changed ≡ false → is_violation answer ≡ false
       → is_done_answer answer ≡ false → Rested trace faults mid new
-  undone mid new asked answer a none calm_ e =
+  undone mid new now asked answer a none calm_ e =
       let l = a.line.store.loads in
       record {
         changed = a.line.saver.unchanged none calm_ e;
@@ -85,21 +85,21 @@ module _ {V : Type 0} {K : Type 0} (shows : Showing) (trace : V → Option (List
         loaded = subst (λ (s : Cached V). (tower_meanings trace faults).loaded (store_of mid) s) (sym (l.undone e)) (subst (λ (s : Cached V). (tower_meanings trace faults).loaded s l.last) (l.unsynced none) l.loaded);
       }
 
-  looked : (mid new : Mount V K) (command : Command) (answer : Answer) → MountAnswers shows trace faults G now mid (Ok command) answer new → mid.core.saver.changed ≡ false → mid.core.violated ≡ false
+  looked : (mid new : Mount V K) (now : Instant) (command : Command) (answer : Answer) → MountAnswers shows trace faults G now mid (Ok command) answer new → mid.core.saver.changed ≡ false → mid.core.violated ≡ false
       → is_violation answer ≡ false → OnlyLooks command → (sync : Bool) → is_sync command ≡ sync → Rested trace faults mid new
-  looked mid new command answer a none fresh calm_ looks true e = rested_same mid new none (same_mount mid new a.opened (a.line.saver.unmoved e fresh none).1)
-  looked mid new command answer a none fresh calm_ looks false e = undone mid new (Ok command) answer a none calm_ (look_undone command answer looks e a.line.form.variant)
+  looked mid new now command answer a none fresh calm_ looks true e = rested_same mid new none (same_mount mid new a.opened (a.line.saver.unmoved e fresh none).1)
+  looked mid new now command answer a none fresh calm_ looks false e = undone mid new now (Ok command) answer a none calm_ (look_undone command answer looks e a.line.form.variant)
 
-  rested_step : (mid new : Mount V K) (asked : Asked) (answer : Answer) → MountAnswers shows trace faults G now mid asked answer new → mid.core.saver.changed ≡ false → mid.core.violated ≡ false
+  rested_step : (mid new : Mount V K) (now : Instant) (asked : Asked) (answer : Answer) → MountAnswers shows trace faults G now mid asked answer new → mid.core.saver.changed ≡ false → mid.core.violated ≡ false
       → is_violation answer ≡ false → AsksNoChange asked ⊎ (is_done_answer answer ≡ false) → Rested trace faults mid new
-  rested_step mid new asked answer a none fresh calm_ (inr e) = undone mid new asked answer a none calm_ e
-  rested_step mid new (Ok command) answer a none fresh calm_ (inl looks) = looked mid new command answer a none fresh calm_ looks (is_sync command) refl
-  rested_step mid new (Err error) answer a none fresh calm_ (inl looks) = rested_same mid new none (same_mount mid new a.opened a.line.form.unread.1)
+  rested_step mid new now asked answer a none fresh calm_ (inr e) = undone mid new now asked answer a none calm_ e
+  rested_step mid new now (Ok command) answer a none fresh calm_ (inl looks) = looked mid new now command answer a none fresh calm_ looks (is_sync command) refl
+  rested_step mid new now (Err error) answer a none fresh calm_ (inl looks) = rested_same mid new none (same_mount mid new a.opened a.line.form.unread.1)
 
-  pub rested_on : (old mid new : Mount V K) (e : Exchange) (es : List Exchange) → Rested trace faults old mid → mid.core.violated ≡ violated es → MountAnswers shows trace faults G now mid e.asked e.answer new
+  pub rested_on : (old mid new : Mount V K) (e : Exchange) (es : List Exchange) → Rested trace faults old mid → mid.core.violated ≡ violated es → MountAnswers shows trace faults G e.at mid e.asked e.answer new
       → AreIdle (e ∷ es) → Rested trace faults old new
   rested_on old mid new e es before flag a idle =
-      let step = rested_step mid new e.asked e.answer a before.changed (flag ∙ calm es idle.2) idle.0 idle.1 in
+      let step = rested_step mid new e.at e.asked e.answer a before.changed (flag ∙ calm es idle.2) idle.0 idle.1 in
       record {
         changed = step.changed;
         keeper = step.keeper ∙ before.keeper;

@@ -6,7 +6,6 @@ use Rattle.std.specs.declared.option.Option.TheVariants.{Some}
 use Rattle.std.specs.declared.result.Result.TheVariants.{Ok, Err}
 use Rattle.std.proofs.lemmas.Bool.{or_parts}
 use Rattle.mount.specs.aes_gcm.Gcm.{opened_of}
-use Rattle.fs_model.specs.Instant.{Instant}
 use Rattle.fs_model.specs.Tree.{Tree}
 use Rattle.outside.specs.Causes.{RoseBy}
 use Rattle.outside.specs.Going.{GoesOn, goes_on_onward}
@@ -112,8 +111,8 @@ config_closed : (kept : Option (List ℕ)) (calls : Option (List Call)) (file : 
 config_closed kept calls file (Ok u) k = k
 config_closed kept calls file (Err e) k = only_one kept calls file k
 
-module _ {V : Type 0} {K : Type 0} (shows : Showing) (trace : V → Option (List Call)) (faults : V → ℕ) (G : KeeperGhosts K) (now : Instant) (es : List Exchange) (opened_ left : Mount V K) (closing : Result Unit SyncError) (vault : V) (keeper : K)
-    (ready : IsReady trace faults G left) (p : Passed shows trace faults G now opened_ left es) (z : Closing shows trace faults G left closing vault keeper) where
+module _ {V : Type 0} {K : Type 0} (shows : Showing) (trace : V → Option (List Call)) (faults : V → ℕ) (G : KeeperGhosts K) (es : List Exchange) (opened_ left : Mount V K) (closing : Result Unit SyncError) (vault : V) (keeper : K)
+    (ready : IsReady trace faults G left) (p : Passed shows trace faults G opened_ left es) (z : Closing shows trace faults G left closing vault keeper) where
   abbrev After : Outside
   After = outside_of trace faults G vault keeper
 
@@ -182,12 +181,12 @@ module _ {V : Type 0} {K : Type 0} (shows : Showing) (trace : V → Option (List
       unforged : lies After ≤ lies Before → forgeries c After ≤ forgeries c Before
       unforged honest = let few = p.unforged first stood_first (honest_lies honest) in omega (arith, forged_first, forged_last, few)
 
-    founded : (c : Settings) (first : Tree) → IsFounded shows password c first Before After → Answers shows now c first Before After closing es
+    founded : (c : Settings) (first : Tree) → IsFounded shows password c first Before After → Answers shows c first Before After closing es
     founded c first f =
         let is = is_left c first f.opens in
         let few : forgeries_of trace faults left ≤ forgeries_of trace faults opened_ = omega (arith, forged_first c first f.opens, forged_last c first f.opens, f.unforged) in
-        let t : PassedTrees shows trace faults G now opened_ left first es = p.passes first (stood_first c first f.opens) few in
-        let point = latest_kept now first es t.trees t.session in
+        let t : PassedTrees shows trace faults G opened_ left first es = p.passes first (stood_first c first f.opens) few in
+        let point = latest_kept first es t.trees t.session in
         record {
           trees = t.trees;
           replies = t.session;
@@ -222,9 +221,9 @@ module _ {V : Type 0} {K : Type 0} (shows : Showing) (trace : V → Option (List
     rests_after idle =
         let r = p.rests b.opened.unchanged idle in
         let l = z.closes.left (inr r.changed) in
-        (l.0, ap G.kept (l.2 ∙ r.keeper), subst (λ (v : V). OnlyGot (calls_of trace opened_) (trace v)) (sym l.1) (loaded_got shows trace faults G now (store_of opened_) (store_of left) r.loaded))
+        (l.0, ap G.kept (l.2 ∙ r.keeper), subst (λ (v : V). OnlyGot (calls_of trace opened_) (trace v)) (sym l.1) (loaded_got shows trace faults G (store_of opened_) (store_of left) r.loaded))
 
-    pub session_run : IsSessionRun shows now password Before After left.core.violated closing es
+    pub session_run : IsSessionRun shows password Before After left.core.violated closing es
     session_run = record {
       attached = record {
         opened = opened_.opened;
@@ -254,21 +253,21 @@ module _ {V : Type 0} {K : Type 0} (shows : Showing) (trace : V → Option (List
     }
 
 -- what answered the lines has the mount
-by_mount : {H : Type 0} {V : Type 0} {K : Type 0} (mount : H → Mount V K) (shows : Showing) (trace : V → Option (List Call)) (faults : V → ℕ) (G : KeeperGhosts K) (now : Instant) (old new : H) (es : List Exchange)
-    → Ran (mount_hosting mount shows trace faults G) now old es new → Ran (mount_hosting (λ (m : Mount V K). m) shows trace faults G) now (mount old) es (mount new)
-by_mount mount shows trace faults G now old new [] r = ap mount r
-by_mount mount shows trace faults G now old new (e ∷ es) r = (mount r.0, by_mount mount shows trace faults G now old r.0 es r.1, r.2)
+by_mount : {H : Type 0} {V : Type 0} {K : Type 0} (mount : H → Mount V K) (shows : Showing) (trace : V → Option (List Call)) (faults : V → ℕ) (G : KeeperGhosts K) (old new : H) (es : List Exchange)
+    → Ran (mount_hosting mount shows trace faults G) old es new → Ran (mount_hosting (λ (m : Mount V K). m) shows trace faults G) (mount old) es (mount new)
+by_mount mount shows trace faults G old new [] r = ap mount r
+by_mount mount shows trace faults G old new (e ∷ es) r = (mount r.0, by_mount mount shows trace faults G old r.0 es r.1, r.2)
 
 -- whether a violation stood is what the mount says at last
-pub whole : {H : Type 0} {V : Type 0} {K : Type 0} (mount : H → Mount V K) (shows : Showing) (trace : V → Option (List Call)) (faults : V → ℕ) (G : KeeperGhosts K) (now : Instant) (password : List ℕ)
+pub whole : {H : Type 0} {V : Type 0} {K : Type 0} (mount : H → Mount V K) (shows : Showing) (trace : V → Option (List Call)) (faults : V → ℕ) (G : KeeperGhosts K) (password : List ℕ)
     (vault last_vault : V) (keeper last_keeper : K) (old new : H) (es : List Exchange) (closing : Result Unit SyncError) (stood : Bool)
-    → Begun shows trace faults G password vault keeper (mount old) → IsReady trace faults G (mount new) → Ran (mount_hosting mount shows trace faults G) now old es new
+    → Begun shows trace faults G password vault keeper (mount old) → IsReady trace faults G (mount new) → Ran (mount_hosting mount shows trace faults G) old es new
     → Closing shows trace faults G (mount new) closing last_vault last_keeper → stood ≡ (mount new).core.violated
-    → IsSessionRun shows now password (outside_of trace faults G vault keeper) (outside_of trace faults G last_vault last_keeper) stood closing es
-    × OnMount shows trace faults G now password vault keeper closing last_vault last_keeper es
-whole mount shows trace faults G now password vault last_vault keeper last_keeper old new es closing stood b ready ran z is = (
-  subst (λ s. IsSessionRun shows now password (outside_of trace faults G vault keeper) (outside_of trace faults G last_vault last_keeper) s closing es) (sym is)
-      (session_run shows trace faults G now es (mount old) (mount new) closing last_vault last_keeper ready (passed mount shows trace faults G now old new es b.opened.fresh ran) z
-      password vault keeper b (refusing mount shows trace faults G now old new es b.opened.fresh ran)),
-  record { opened = mount old; left = mount new; begun = b; ran = by_mount mount shows trace faults G now old new es ran; closed = z },
+    → IsSessionRun shows password (outside_of trace faults G vault keeper) (outside_of trace faults G last_vault last_keeper) stood closing es
+    × OnMount shows trace faults G password vault keeper closing last_vault last_keeper es
+whole mount shows trace faults G password vault last_vault keeper last_keeper old new es closing stood b ready ran z is = (
+  subst (λ s. IsSessionRun shows password (outside_of trace faults G vault keeper) (outside_of trace faults G last_vault last_keeper) s closing es) (sym is)
+      (session_run shows trace faults G es (mount old) (mount new) closing last_vault last_keeper ready (passed mount shows trace faults G old new es b.opened.fresh ran) z
+      password vault keeper b (refusing mount shows trace faults G old new es b.opened.fresh ran)),
+  record { opened = mount old; left = mount new; begun = b; ran = by_mount mount shows trace faults G old new es ran; closed = z },
 )

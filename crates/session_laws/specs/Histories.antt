@@ -7,7 +7,6 @@ use Rattle.run_frame.specs.answers.Sessions.{Exchange, IsSession, IsKeptPoint, l
 use Rattle.mount.specs.config_file.ConfigOf.{ConfigOf, locked}
 use Rattle.mount.specs.config_file.Settings.{Settings}
 use Rattle.mount.specs.config_file.declared.error.ConfigError.TheVariants as config_error
-use Rattle.fs_model.specs.Instant.{Instant}
 use Rattle.fs_model.specs.Tree.{Tree, empty_tree}
 use Rattle.mount.specs.aes_gcm.Gcm.{opened_of}
 use Rattle.mount.specs.block_versions.Forgeries.{forged}
@@ -28,40 +27,40 @@ use Rattle.run_frame.specs.mount_stores.Unforged.{IsOnlyConfig, IsUnforgedConfig
 use Rattle.session_laws.specs.Causes.{AreBuilt}
 use Rattle.session_laws.specs.Runs.{Outside, OutsideStandsFor, PasswordOpens, forgeries, lies, AreCalm, IsSessionRun, IsQuietRun, IsExaminedRun, IsMigrationRun}
 
--- a run: the session of some exchanges at a moment, closed so, one of no lines, a check that was bad or not, or one that wrote the blocks anew and met a violation or didn't; each under a password, from the one moment outside to the other
+-- a run: the session of some exchanges, closed so, one of no lines, a check that was bad or not, or one that wrote the blocks anew and met a violation or didn't; each under a password, from the one moment outside to the other
 pub data Run : Type 0 where
-  session : Instant → List ℕ → Outside → Outside → Result Unit SyncError → List Exchange → Run
+  session : List ℕ → Outside → Outside → Result Unit SyncError → List Exchange → Run
   quiet : List ℕ → Outside → Outside → Run
   examined : List ℕ → Outside → Outside → Bool → Run
   migrated : List ℕ → Outside → Outside → Bool → Run
 
 abbrev pub before_of : Run → Outside
-before_of (session now password before after closing es) = before
+before_of (session password before after closing es) = before
 before_of (quiet password before after) = before
 before_of (examined password before after bad) = before
 before_of (migrated password before after bad) = before
 
 abbrev pub after_of : Run → Outside
-after_of (session now password before after closing es) = after
+after_of (session password before after closing es) = after
 after_of (quiet password before after) = after
 after_of (examined password before after bad) = after
 after_of (migrated password before after bad) = after
 
 abbrev pub exchanges_of : Run → List Exchange
-exchanges_of (session now password before after closing es) = es
+exchanges_of (session password before after closing es) = es
 exchanges_of (quiet password before after) = []
 exchanges_of (examined password before after bad) = []
 exchanges_of (migrated password before after bad) = []
 
 -- there was a violation in it, or its check was bad
 abbrev pub condemns : Run → Bool
-condemns (session now password before after closing es) = violated es
+condemns (session password before after closing es) = violated es
 condemns (quiet password before after) = false
 condemns (examined password before after bad) = bad
 condemns (migrated password before after bad) = bad
 
 abbrev pub IsRun : Showing → Run → Type 0
-IsRun shows (session now password before after closing es) = IsSessionRun shows now password before after (violated es) closing es
+IsRun shows (session password before after closing es) = IsSessionRun shows password before after (violated es) closing es
 IsRun shows (quiet password before after) = IsQuietRun shows password before after
 IsRun shows (examined password before after bad) = IsExaminedRun shows password before after bad
 IsRun shows (migrated password before after bad) = IsMigrationRun shows password before after bad
@@ -81,7 +80,7 @@ none_forged_back c before after = no_rise_where_none_since (forged (opened_of c.
 
 -- nothing that opens was forged in the run; one of no lines asks for no block, and a check takes none of what it loads
 abbrev pub IsUnforgedRun : Settings → Run → Type 0
-IsUnforgedRun c (session now password before after closing es) = IsUnforged password c before after
+IsUnforgedRun c (session password before after closing es) = IsUnforged password c before after
 IsUnforgedRun c (quiet password before after) = IsUnforgedConfig password before.kept before.calls after.calls c
 IsUnforgedRun c (examined password before after bad) = IsUnforgedConfig password before.kept before.calls after.calls c
 IsUnforgedRun c (migrated password before after bad) = IsUnforged password c before after
@@ -106,9 +105,9 @@ was_violated [] = false
 was_violated (run ∷ runs) = condemns run || was_violated runs
 
 -- The answers are a session of the plain tree from the kept tree on. It leaves the tree of a kept point, or after a violation perhaps a marked record.
-pub record Serves (shows : Showing) (c : Settings) (from : Tree) (now : Instant) (before after : Outside) (es : List Exchange) (tree : Tree) : Type 0 where
+pub record Serves (shows : Showing) (c : Settings) (from : Tree) (before after : Outside) (es : List Exchange) (tree : Tree) : Type 0 where
   pub trees : List Tree
-  pub replies : IsSession now from es trees
+  pub replies : IsSession from es trees
   pub kept : ((violated es ≡ true) × IsKeptMarked records after.kept × (tree ≡ from)) ⊎ (IsKeptPoint from es trees tree × OutsideStandsFor shows c tree after)
   pub no_false_alarm : lies after ≤ lies before → AreCalm es
   pub built : AreBuilt es
@@ -121,7 +120,7 @@ pub record Examines (shows : Showing) (c : Settings) (from : Tree) (before after
 
 -- what a run does from a kept tree on, and the tree that it leaves
 abbrev pub RunsFrom : Showing → Settings → Tree → Run → Tree → Type 0
-RunsFrom shows c from (session now password before after closing es) tree = Serves shows c from now before after es tree
+RunsFrom shows c from (session password before after closing es) tree = Serves shows c from before after es tree
 RunsFrom shows c from (quiet password before after) tree = (tree ≡ from) × OutsideStandsFor shows c tree after
 RunsFrom shows c from (examined password before after bad) tree = Examines shows c from before after bad tree
 RunsFrom shows c from (migrated password before after bad) tree = Examines shows c from before after bad tree
@@ -181,7 +180,7 @@ pub record IsHonest (password : List ℕ) (c : Settings) (before after : Outside
   pub opens : OpensOrLocks password c before
 
 abbrev pub IsHonestRun : Settings → Run → Type 0
-IsHonestRun c (session now password before after closing es) = IsHonest password c before after
+IsHonestRun c (session password before after closing es) = IsHonest password c before after
 IsHonestRun c (quiet password before after) = IsHonest password c before after
 IsHonestRun c (examined password before after bad) = IsHonest password c before after
 IsHonestRun c (migrated password before after bad) = IsHonest password c before after
@@ -192,7 +191,7 @@ AreHonestRuns shows c start (run ∷ runs) = IsRun shows run × IsHonestRun c ru
 
 -- under the run's password no other configuration opens at all
 abbrev pub OpensOnly : Settings → Run → Type 0
-OpensOnly c (session now password before after closing es) = IsOnlyConfig password before.kept before.calls after.calls c
+OpensOnly c (session password before after closing es) = IsOnlyConfig password before.kept before.calls after.calls c
 OpensOnly c (quiet password before after) = IsOnlyConfig password before.kept before.calls after.calls c
 OpensOnly c (examined password before after bad) = IsOnlyConfig password before.kept before.calls after.calls c
 OpensOnly c (migrated password before after bad) = IsOnlyConfig password before.kept before.calls after.calls c

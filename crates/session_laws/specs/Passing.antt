@@ -1,7 +1,6 @@
 -- Where the answers of a session leave a mount, from the first on. The newest exchange and tree stand first.
 use Rattle.std.specs.Prelude.{◌≡◌, ◌⊎◌, ◌≤◌, ℕ, ◌+◌, Bool, true, false, List, length}
 use Rattle.std.specs.declared.option.Option.{Option}
-use Rattle.fs_model.specs.Instant.{Instant}
 use Rattle.fs_model.specs.Tree.{Tree}
 use Rattle.outside.specs.Causes.{RoseBy}
 use Rattle.outside.specs.Going.{GoesOn}
@@ -41,15 +40,15 @@ abbrev pub KeptAfter : Bool → (List ℕ → ℕ) → Option (List ℕ) → Opt
 KeptAfter bad most old new = ((bad ≡ true) × IsKeptMarked records new) ⊎ ((new ≡ old) ⊎ KeepsAtMost most new)
 
 -- these trees and the exchanges are a session
-pub record PassedTrees {V : Type 0} {K : Type 0} (shows : Showing) (trace : V → Option (List Call)) (faults : V → ℕ) (G : KeeperGhosts K) (now : Instant) (old new : Mount V K) (first : Tree) (es : List Exchange) : Type 0 where
+pub record PassedTrees {V : Type 0} {K : Type 0} (shows : Showing) (trace : V → Option (List Call)) (faults : V → ℕ) (G : KeeperGhosts K) (old new : Mount V K) (first : Tree) (es : List Exchange) : Type 0 where
   pub trees : List Tree
-  pub session : IsSession now first es trees
+  pub session : IsSession first es trees
   pub left : LeftAt shows trace faults G new first es trees (violated es)
   pub alarm : lies_of trace faults new ≤ lies_of trace faults old → violated es ≡ false
   pub built : AreBuilt es
 
 -- the exchanges led from the one mount, in which there was no violation, to the other
-pub record Passed {V : Type 0} {K : Type 0} (shows : Showing) (trace : V → Option (List Call)) (faults : V → ℕ) (G : KeeperGhosts K) (now : Instant) (old new : Mount V K) (es : List Exchange) : Type 0 where
+pub record Passed {V : Type 0} {K : Type 0} (shows : Showing) (trace : V → Option (List Call)) (faults : V → ℕ) (G : KeeperGhosts K) (old new : Mount V K) (es : List Exchange) : Type 0 where
   pub flag : new.core.violated ≡ violated es
   pub answered : AreAnswered es
   pub rose : (id : List ℕ) → version_of trace new id ≤ version_of trace old id + length es
@@ -73,4 +72,4 @@ pub record Passed {V : Type 0} {K : Type 0} (shows : Showing) (trace : V → Opt
       → ConfigAnswered (tower_holdings trace) (tower_durables trace) records G new.core may present (violated es)
   pub unforged : (first : Tree) → TowerStands shows trace faults G old.core first first → lies_of trace faults new ≤ lies_of trace faults old → forgeries_of trace faults new ≤ forgeries_of trace faults old
   pub passes : (first : Tree) → TowerStands shows trace faults G old.core first first → forgeries_of trace faults new ≤ forgeries_of trace faults old
-      → PassedTrees shows trace faults G now old new first es
+      → PassedTrees shows trace faults G old new first es

@@ -7,7 +7,6 @@ use Rattle.run_frame.specs.answers.Sessions.{Exchange, IsSession, IsKeptPoint, R
 use Rattle.mount.specs.config_file.ConfigOf.{ConfigOf, opened}
 use Rattle.mount.specs.config_file.Settings.{Settings}
 use Rattle.mount.specs.config_file.declared.config.Opened.{Opened}
-use Rattle.fs_model.specs.Instant.{Instant}
 use Rattle.fs_model.specs.Tree.{Tree}
 use Rattle.mount.specs.block_versions.Forgeries.{forged}
 use Rattle.mount.specs.block_versions.Standing.{records}
@@ -76,9 +75,9 @@ AreCalm [] = Unit {0}
 AreCalm (e ∷ es) = (is_violation e.answer ≡ false) × (is_refused e.answer ≡ false) × AreCalm es
 
 -- The answers are the plain tree's, and what is kept stands for the tree of a kept point. The newest exchange and tree stand first.
-pub record Answers (shows : Showing) (now : Instant) (c : Settings) (first : Tree) (before after : Outside) (closing : Result Unit SyncError) (es : List Exchange) : Type 0 where
+pub record Answers (shows : Showing) (c : Settings) (first : Tree) (before after : Outside) (closing : Result Unit SyncError) (es : List Exchange) : Type 0 where
   pub trees : List Tree
-  pub replies : IsSession now first es trees
+  pub replies : IsSession first es trees
   -- a marked record is kept only after a violation
   pub kept : ((violated es ≡ true) × IsKeptMarked records after.kept) ⊎ ((tree : Tree) × IsKeptPoint first es trees tree × OutsideStandsFor shows c tree after)
   pub no_false_alarm : lies after ≤ lies before → AreCalm es
@@ -108,7 +107,7 @@ pub record WasAttached (password : List ℕ) (before after : Outside) : Type 0 w
   pub goes_on : GoesOn calls after.calls
 
 -- A session from its opening to its end, with its exchanges: whatever the directory gave, and for each configuration and first tree that it is founded on.
-pub record IsSessionRun (shows : Showing) (now : Instant) (password : List ℕ) (before after : Outside) (stood : Bool) (closing : Result Unit SyncError) (es : List Exchange) : Type 0 where
+pub record IsSessionRun (shows : Showing) (password : List ℕ) (before after : Outside) (stood : Bool) (closing : Result Unit SyncError) (es : List Exchange) : Type 0 where
   pub attached : WasAttached password before after
   pub refuses : RefusesAfterViolation es
   -- where no line came to a change, nor to a violation, what opening left is kept, and since then the directory was only asked for blocks
@@ -135,7 +134,7 @@ pub record IsSessionRun (shows : Showing) (now : Instant) (password : List ℕ) 
   pub configures : (file : List ℕ) → is_some before.calls ≡ true → KeptConfigures records before.kept before.calls file → KeptConfigures records after.kept after.calls file
   -- and each password that opened it still does
   pub opens : (other : List ℕ) (c : Settings) → is_some before.calls ≡ true → PasswordOpens other c before → PasswordOpens other c after
-  pub founded : (c : Settings) (first : Tree) → IsFounded shows password c first before after → Answers shows now c first before after closing es
+  pub founded : (c : Settings) (first : Tree) → IsFounded shows password c first before after → Answers shows c first before after closing es
   -- a directory that gives what was last written gives no forgery
   pub unforged : (c : Settings) (first : Tree) → OpensTo shows password c first before after → lies after ≤ lies before → forgeries c after ≤ forgeries c before
 

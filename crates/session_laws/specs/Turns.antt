@@ -3,7 +3,6 @@ use Rattle.std.specs.Prelude.{◌≡◌, ℕ, List, Result}
 use Rattle.std.specs.declared.option.Option.{Option}
 use Rattle.run_frame.specs.answers.Hosts.{Ran}
 use Rattle.run_frame.specs.answers.Sessions.{Exchange}
-use Rattle.fs_model.specs.Instant.{Instant}
 use Rattle.outside.specs.Trace.{Call}
 use Rattle.outside.specs.declared.keeper.Keeper.{Ghosts as KeeperGhosts}
 use Rattle.mount.specs.record_saver.declared.saver.SyncError.{SyncError}
@@ -32,10 +31,10 @@ pub record Closing {V : Type 0} {K : Type 0} (shows : Showing) (trace : V → Op
   pub leaves : MountLeaves trace faults G mount closing vault keeper
   pub closes : MountCloses shows trace faults G mount closing vault keeper
 
--- The session was one of a mount: this one was opened under the password, gave one answer after another to what was asked, and left as that one it was closed.
-pub record OnMount {V : Type 0} {K : Type 0} (shows : Showing) (trace : V → Option (List Call)) (faults : V → ℕ) (G : KeeperGhosts K) (now : Instant) (password : List ℕ) (vault : V) (keeper : K) (closing : Result Unit SyncError) (last_vault : V) (last_keeper : K) (es : List Exchange) : Type 0 where
+-- The session was one of a mount: this one was opened under the password, gave one answer after another to what was asked, each at its moment, and left as that one it was closed.
+pub record OnMount {V : Type 0} {K : Type 0} (shows : Showing) (trace : V → Option (List Call)) (faults : V → ℕ) (G : KeeperGhosts K) (password : List ℕ) (vault : V) (keeper : K) (closing : Result Unit SyncError) (last_vault : V) (last_keeper : K) (es : List Exchange) : Type 0 where
   pub opened : Mount V K
   pub left : Mount V K
   pub begun : Begun shows trace faults G password vault keeper opened
-  pub ran : Ran (mount_hosting (λ m. m) shows trace faults G) now opened es left
+  pub ran : Ran (mount_hosting (λ m. m) shows trace faults G) opened es left
   pub closed : Closing shows trace faults G left closing last_vault last_keeper
