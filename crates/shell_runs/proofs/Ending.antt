@@ -3,7 +3,6 @@ use Rattle.std.proofs.Common.{◌≡◌, ◌⊎◌, ◌∙◌, ℕ, Bool, List, 
 use Rattle.std.specs.Prelude.{Result}
 use Rattle.std.specs.declared.option.Option.{Option}
 use Rattle.session_laws.specs.answers.Sessions.{Exchange}
-use Rattle.fs_model.specs.Instant.{Instant}
 use Rattle.session_laws.specs.line_io.Reading.{Reading, coming, total}
 use Rattle.session_laws.specs.line_io.Streams.{Stream, HasFailed, TookMost, Untouched}
 use Rattle.outside.specs.Trace.{Call}
@@ -51,19 +50,19 @@ has_password input whole reader taken stored password same read e =
     subst (λ (x : List ℕ). HasPassword whole x (coming reader.ahead input.new)) (sym e)
     (record { short = read.short; is_next = subst (λ (x : Option (List ℕ)). IsNextPassword x stored (coming reader.ahead input.new)) same read.is_next })
 
-module _ {V : Type 0} {K : Type 0} (trace : V → Option (List Call)) (faults : V → ℕ) (G : KeeperGhosts K) (now : Instant) (Came : Option (List ℕ) → End → Status → List Exchange → Type 0)
+module _ {V : Type 0} {K : Type 0} (trace : V → Option (List Call)) (faults : V → ℕ) (G : KeeperGhosts K) (Came : Option (List ℕ) → End → Status → List Exchange → Type 0)
     (input output : Stream) (password : List ℕ) (script : Option (List ℕ)) (has : HasPassword input password script) (vault : V) (keeper : K) (ended : Ended V K) where
-  pub halted : (error : OpenError) × IsUnopened trace faults G password vault keeper ended error → IsUnfailed input → Untouched output → Session trace faults G now Came input output vault keeper ended
+  pub halted : (error : OpenError) × IsUnopened trace faults G password vault keeper ended error → IsUnfailed input → Untouched output → Session trace faults G Came input output vault keeper ended
   halted unopened unfailed unwritten = inr (password, script, has, inl (unopened, unfailed, unwritten))
 
   pub was_served : {R : Type 0} (stream : R → Chance) (old new : Mounted V K R) (es : List Exchange) (end : End) (own : Status) → IsOwn own → Begun ShowsFiles trace faults G password vault keeper old.mount → IsReady trace faults G new.mount
-      → Ran (mounted_hosting stream trace faults G) now old es new → Came script end own es
+      → Ran (mounted_hosting stream trace faults G) old es new → Came script end own es
       → (closing : Result Unit SyncError) × (ended.status ≡ first_of (session_status new.mount.core.violated end closing) own) × Closing ShowsFiles trace faults G new.mount closing ended.vault ended.keeper
-      → WasServed trace faults G now Came input vault keeper ended
+      → WasServed trace faults G Came input vault keeper ended
   was_served {R = R} stream old new es end own mild begun ready ran came (closing, status, closed) =
       let mount = λ (m : Mounted V K R). m.mount in
-      let went = undrawing mount (λ m. stream m.chance.now) (λ m. m.chance.ghost_name) ShowsFiles trace faults G now old new es ran in
-      let w = whole mount ShowsFiles trace faults G now password vault ended.vault keeper ended.keeper old new es closing new.mount.core.violated begun ready went closed refl in (
+      let went = undrawing mount (λ m. stream m.chance.now) (λ m. m.chance.ghost_name) ShowsFiles trace faults G old new es ran in
+      let w = whole mount ShowsFiles trace faults G password vault ended.vault keeper ended.keeper old new es closing new.mount.core.violated begun ready went closed refl in (
         password,
         script,
         has,
@@ -74,21 +73,21 @@ module _ {V : Type 0} {K : Type 0} (trace : V → Option (List Call)) (faults : 
           closing = closing;
           mild = mild;
           came = came;
-          session = subst (λ (b : Bool). IsSessionRun ShowsFiles now password (outside_of trace faults G vault keeper) (outside_of trace faults G ended.vault ended.keeper) b closing es) w.0.violation w.0;
+          session = subst (λ (b : Bool). IsSessionRun ShowsFiles password (outside_of trace faults G vault keeper) (outside_of trace faults G ended.vault ended.keeper) b closing es) w.0.violation w.0;
           mounted = w.1;
           status = subst (λ (b : Bool). ended.status ≡ first_of (session_status b end closing) own) w.0.violation status;
         },
       )
 
 -- and so it was a session
-pub served : {V : Type 0} {K : Type 0} (trace : V → Option (List Call)) (faults : V → ℕ) (G : KeeperGhosts K) (now : Instant) (Came : Option (List ℕ) → End → Status → List Exchange → Type 0)
-    (input output : Stream) (vault : V) (keeper : K) (ended : Ended V K) → WasServed trace faults G now Came input vault keeper ended → Session trace faults G now Came input output vault keeper ended
-served trace faults G now Came input output vault keeper ended w = inr (w.0, w.1, w.2, inr w.3)
+pub served : {V : Type 0} {K : Type 0} (trace : V → Option (List Call)) (faults : V → ℕ) (G : KeeperGhosts K) (Came : Option (List ℕ) → End → Status → List Exchange → Type 0)
+    (input output : Stream) (vault : V) (keeper : K) (ended : Ended V K) → WasServed trace faults G Came input vault keeper ended → Session trace faults G Came input output vault keeper ended
+served trace faults G Came input output vault keeper ended w = inr (w.0, w.1, w.2, inr w.3)
 
 -- and what it drew
-pub draws_served : {V : Type 0} {K : Type 0} {R : Type 0} (stream : R → Chance) (trace : V → Option (List Call)) (faults : V → ℕ) (G : KeeperGhosts K) (now : Instant) (password : List ℕ) (vault : V) (keeper : K) (ended : Ended V K) (own : Status) (end : End)
-    → (old new : Mounted V K R) (es : List Exchange) → Begun ShowsFiles trace faults G password vault keeper old.mount → OpensSealed (G.kept keeper) (trace vault) (view_of trace old.mount) → Ran (mounted_hosting stream trace faults G) now old es new
+pub draws_served : {V : Type 0} {K : Type 0} {R : Type 0} (stream : R → Chance) (trace : V → Option (List Call)) (faults : V → ℕ) (G : KeeperGhosts K) (password : List ℕ) (vault : V) (keeper : K) (ended : Ended V K) (own : Status) (end : End)
+    → (old new : Mounted V K R) (es : List Exchange) → Begun ShowsFiles trace faults G password vault keeper old.mount → OpensSealed (G.kept keeper) (trace vault) (view_of trace old.mount) → Ran (mounted_hosting stream trace faults G) old es new
     → (closing : Result Unit SyncError) × (ended.status ≡ first_of (session_status new.mount.core.violated end closing) own) × Closing ShowsFiles trace faults G new.mount closing ended.vault ended.keeper
     → DrawsVectors (stream old.chance.now) (stream new.chance.now) (outside_of trace faults G vault keeper) (outside_of trace faults G ended.vault ended.keeper)
-draws_served {V = V} {K = K} {R = R} stream trace faults G now password vault keeper ended own end old new es begun opens ran (closing, status, closed) =
-    draws_session (λ (m : Mounted V K R). m.mount) (λ m. stream m.chance.now) (λ m. m.chance.ghost_name) ShowsFiles trace faults G now password vault ended.vault keeper ended.keeper old new es closing begun opens ran closed
+draws_served {V = V} {K = K} {R = R} stream trace faults G password vault keeper ended own end old new es begun opens ran (closing, status, closed) =
+    draws_session (λ (m : Mounted V K R). m.mount) (λ m. stream m.chance.now) (λ m. m.chance.ghost_name) ShowsFiles trace faults G password vault ended.vault keeper ended.keeper old new es closing begun opens ran closed

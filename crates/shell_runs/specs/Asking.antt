@@ -1,7 +1,6 @@
 -- How a session asks.
 use Rattle.std.specs.Prelude.{◌≡◌, ◌≤◌, ℕ, Bool, false, List}
 use Rattle.std.specs.declared.option.Option.{Option}
-use Rattle.fs_model.specs.Instant.{Instant}
 use Rattle.run_status.specs.declared.status.Status.{Status}
 use Rattle.session_laws.specs.answers.Sessions.{Exchange}
 use Rattle.session_laws.specs.line_io.Reading.{total}
@@ -17,11 +16,9 @@ use Rattle.shell_runs.specs.declared.single_line.SingleLine.{SingleLine}
 pub record Manner (A : Type 0) : Type 1 where
   -- what it needs
   pub fits : A → Type 0
-  -- the moment of its commands
-  pub moment : A → Instant
   -- whether the folder of the host may be called
   pub copies : Bool
-  -- how its exchanges come from what follows the password line, and are written
+  -- how its exchanges come from what follows the password line, at which moments, and are written
   pub Comes : A → HostSeen → Stream → Stream → Option (List ℕ) → End → Status → List Exchange → Type 0
 
 -- the input before these bytes were taken of it, without a fault: so much was left, and so many faults were counted
@@ -36,10 +33,10 @@ Came M asks host taken script input output end own es =
     → M.Comes asks host (record { old = old; new = input.new; faults = faults; risen = input.risen }) output script end own es
 
 abbrev pub shell_manner : Manner ShellLines
-shell_manner = record { fits = λ a. Unit {0}; moment = λ a. a.now; copies = false; Comes = λ a host. ComesShell }
+shell_manner = record { fits = λ a. Unit {0}; copies = false; Comes = λ a host. ComesShell a.now }
 
 abbrev pub generated_manner : Manner GeneratedCommands
-generated_manner = record { fits = λ a. a.count ≤ 1000000; moment = λ a. a.now; copies = false; Comes = λ a host. ComesGenerated a.count }
+generated_manner = record { fits = λ a. a.count ≤ 1000000; copies = false; Comes = λ a host. ComesGenerated a.now a.count }
 
 abbrev pub single_manner : Manner SingleLine
-single_manner = record { fits = λ a. Unit {0}; moment = λ a. a.now; copies = false; Comes = λ a host. ComesCommand a.line.items }
+single_manner = record { fits = λ a. Unit {0}; copies = false; Comes = λ a host. ComesCommand a.now a.line.items }

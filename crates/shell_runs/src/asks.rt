@@ -56,7 +56,7 @@ pub trait Asks: Drop {
         ensures ready { IsReady V.trace V.faults K.Keeper result.mounted.mount }
         ensures chance { result.mounted.chance.ghost_name ≡ mounted.entry.chance.ghost_name }
         ensures asked { (es : List Exchange)
-            × Ran (mounted_hosting R.stream V.trace V.faults K.Keeper) (manner.moment self) mounted.entry es result.mounted
+            × Ran (mounted_hosting R.stream V.trace V.faults K.Keeper) mounted.entry es result.mounted
             × Came manner self (host_of F.tree F.faults host.old host.new) reader.old.taken (coming reader.old.ahead (I.rest input.old))
             (stream_of I.rest I.faults input.old input.new) (stream_of O.written O.faults output.old output.new) result.end result.own es }
         ensures own { IsOwn result.own }

@@ -28,12 +28,12 @@ pub fn run_session<A: Asks, I: Source, O: Sink, F: Folder, V: Vault, K: Keeper, 
     host: &mut F,
 ) -> Ended<V, K>
     requires fits { A.manner.fits asks }
-    ensures session { Session V.trace V.faults K.Keeper (A.manner.moment asks)
+    ensures session { Session V.trace V.faults K.Keeper
         (A.manner.Comes asks (host_of F.tree F.faults host.old host.new) (stream_of I.rest I.faults input.old input.new) (stream_of O.written O.faults output.old output.new))
         (stream_of I.rest I.faults input.old input.new) (stream_of O.written O.faults output.old output.new) storage.vault storage.keeper result }
     ensures drawn { DrawsVectors (R.stream chance.old) (R.stream chance.new)
         (outside_of V.trace V.faults K.Keeper storage.vault storage.keeper) (outside_of V.trace V.faults K.Keeper result.vault result.keeper) }
-    ensures unhosted { (host.new ≡ host.old) ⊎ WasServed V.trace V.faults K.Keeper (A.manner.moment asks)
+    ensures unhosted { (host.new ≡ host.old) ⊎ WasServed V.trace V.faults K.Keeper
         (A.manner.Comes asks (host_of F.tree F.faults host.old host.new) (stream_of I.rest I.faults input.old input.new) (stream_of O.written O.faults output.old output.new))
         (stream_of I.rest I.faults input.old input.new) storage.vault storage.keeper result }
     ensures uncopied { A.manner.copies ≡ false → host.new ≡ host.old }

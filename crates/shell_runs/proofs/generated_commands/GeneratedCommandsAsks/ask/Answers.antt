@@ -6,4 +6,4 @@ pub returns-clause-asked : goal.returns-clause-asked
 returns-clause-asked g c =
     let lines = c.answer_generated-end in
     let s = lines.ensures.generated in
-    (generated s.0, s.1.ran, λ old faults e. (((s.0, refl, s.1.all, s.1.written), e.quiet), refl))
+    (generated c.args.self.now s.0, s.1.ran, λ old faults e. (((s.0, refl, s.1.all, s.1.written), e.quiet), refl))

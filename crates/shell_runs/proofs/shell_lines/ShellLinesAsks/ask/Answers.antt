@@ -14,5 +14,5 @@ returns-clause-asked g c =
     let script = coming reader.ahead input.old in (
       s.0,
       s.1,
-      λ old faults e. (from_start reader.taken script old input.old input.new faults input.faults input.risen output s.0 lines.result e.counted e.quiet s.2, refl),
+      λ old faults e. (s.2, (from_start reader.taken script old input.old input.new faults input.faults input.risen output s.0 lines.result e.counted e.quiet s.3, refl)),
     )

@@ -6,4 +6,4 @@ pub returns-clause-asked : goal.returns-clause-asked
 returns-clause-asked g c =
     let lines = c.answer_single-end in
     let s = lines.ensures.answered in
-    (single c.deref.result.now s.0, s.1.ran, λ old faults e. (((s.0, ap (λ (line : List ℕ). single line s.0) c.deref.ensures.value, s.1.written), e.quiet), refl))
+    (single c.args.self.now c.deref.result.now s.0, s.1.ran, λ old faults e. (((s.0, ap (λ (line : List ℕ). single c.args.self.now line s.0) c.deref.ensures.value, s.1.written), e.quiet), refl))
