@@ -139,9 +139,9 @@ last_leaves now p bytes qs o first last l n f h =
 -- ---- the laws
 
 pub leaves : PutLeaves
-leaves p bytes totals now first qs es trees is f s =
+leaves p bytes totals now first qs es trees is f at s =
     let last : Tree = latest first trees in
-    let h = done_follows now qs first last is.ends (follows now first qs es trees f s) in
+    let h = done_follows now qs first last is.ends (follows now first qs es trees f at s) in
     let done : AllDone first now (put_commands p bytes) last = subst (λ cs. AllDone first now cs last) is.commands h in
     subst (IsPutIn first last p) (whole_is bytes) (put_file now p (pieces_of bytes) first last (some-cut 1048576 (length bytes) bytes (omega arith)) done)
 
@@ -152,4 +152,4 @@ part_by now p bytes qs stop.Stopped first last is h = last_leaves now p bytes qs
 part_by now p bytes qs (stop.Refused e) first last is h = last_leaves now p bytes qs (Ok (Error e)) first last is.ends tt is.commands h
 
 pub part_leaves : PutLeavesPart
-part_leaves p bytes e now first qs es trees is f s = part_by now p bytes qs e first (latest first trees) is (follows now first qs es trees f s)
+part_leaves p bytes e now first qs es trees is f at s = part_by now p bytes qs e first (latest first trees) is (follows now first qs es trees f at s)

@@ -125,9 +125,9 @@ refused_first now p (v ∷ ps) e t last output h w =
 -- ---- the laws
 
 pub tells : GetTells
-tells p output now first qs es trees is f s =
+tells p output now first qs es trees is f at s =
     let end = is.ends in
-    let r = read_on now p is.pieces end.0 qs first (latest first trees) is.whole end.1.0.1 (follows now first qs es trees f s) in
+    let r = read_on now p is.pieces end.0 qs first (latest first trees) is.whole end.1.0.1 (follows now first qs es trees f at s) in
     let all : r.row.bytes ≡ joined is.pieces ++ end.0 = r.front ∙ ap (λ z. joined is.pieces ++ z) (short_rest (drop (place_behind is.pieces) r.row.bytes) end.0 r.next end.1.0.0) in
     (r.same, (joined is.pieces ++ end.0, (has_file first p r.row (joined is.pieces ++ end.0) r.here r.kind all, end.1.1.0)))
 
@@ -161,4 +161,4 @@ fails_by p output (stop.Refused e) now first last qs is h =
     (one.1.1 ∙ read_stays first now p (place_behind is.pieces) (Error e) one.0 one.1.0, refused_first now p is.pieces e first last output all is.ends.1.0)
 
 pub part_tells : GetTellsPart
-part_tells p output e now first qs es trees is f s = fails_by p output e now first (latest first trees) qs is (follows now first qs es trees f s)
+part_tells p output e now first qs es trees is f at s = fails_by p output e now first (latest first trees) qs is (follows now first qs es trees f at s)

@@ -4,8 +4,9 @@ use Rattle.std.specs.declared.option.Option.{Option}
 use Rattle.std.specs.declared.option.Option.TheVariants.{None}
 use Rattle.std.specs.declared.result.Result.{Result}
 use Rattle.std.specs.declared.result.Result.TheVariants.{Ok, Err}
+use Rattle.fs_model.specs.Instant.{Instant}
 use Rattle.copy_sessions.specs.answers.declared.answer.Answer.{Answer}
-use Rattle.copy_sessions.specs.answers.Sessions.{Exchange}
+use Rattle.copy_sessions.specs.answers.Sessions.{Exchange, AllAt}
 use Rattle.copy_sessions.specs.line_io.Streams.{Stream, Untouched}
 use Rattle.copy_sessions.specs.session_lines.Driven.{IsUnfailed}
 use Rattle.copy_sessions.specs.session_lines.declared.end.End.{End}
@@ -44,9 +45,9 @@ pub record IsPutSession (path : HostPath) (taken : ℕ) (script : Option (List �
   pub used : InputBy taken input result
   pub told : IsPutTold result path (kept_after None es) output end own
 
--- the bytes that follow the password line
-abbrev pub ComesPut : HostPath → Stream → Stream → Option (List ℕ) → End → Status → List Exchange → Type 0
-ComesPut path input output script end own es = IsPutSession path 0 script input output end own es
+-- the bytes that follow the password line; all at this moment
+abbrev pub ComesPut : Instant → HostPath → Stream → Stream → Option (List ℕ) → End → Status → List Exchange → Type 0
+ComesPut now path input output script end own es = AllAt now es × IsPutSession path 0 script input output end own es
 
 -- how a get that ended so ends its session, with this answer kept, and its status: nothing is told but the bytes
 abbrev pub IsGetEnd : {X : Type 0} → Result X Stop → Option Answer → End → Status → Type 0
@@ -65,6 +66,6 @@ pub record IsGetSession (path : HostPath) (input output : Stream) (end : End) (o
   pub ends : IsGetEnd result (kept_after None es) end own
   pub unfailed : IsUnfailed input
 
--- whatever follows the password line
-abbrev pub ComesGet : HostPath → Stream → Stream → Option (List ℕ) → End → Status → List Exchange → Type 0
-ComesGet path input output script end own es = IsGetSession path input output end own es
+-- whatever follows the password line; all at this moment
+abbrev pub ComesGet : Instant → HostPath → Stream → Stream → Option (List ℕ) → End → Status → List Exchange → Type 0
+ComesGet now path input output script end own es = AllAt now es × IsGetSession path input output end own es

@@ -8,7 +8,7 @@ use Rattle.std.specs.declared.result.Result.TheVariants.{Ok, Err}
 use Rattle.outside.specs.Streams.{appends}
 use Rattle.copy_sessions.specs.line_io.Streams.{Stream, HasFailed, TookMost, Cut}
 use Rattle.copy_sessions.specs.answers.declared.answer.Answer.{Answer}
-use Rattle.copy_sessions.specs.answers.Sessions.{Exchange, IsSession, latest}
+use Rattle.copy_sessions.specs.answers.Sessions.{Exchange, AllAt, IsSession, latest}
 use Rattle.fs_model.specs.declared.attr.Kind.TheVariants.{File}
 use Rattle.fs_model.specs.declared.command.Command.TheVariants as command
 use Rattle.fs_model.specs.declared.reply.Reply.TheVariants.{Error}
@@ -47,7 +47,7 @@ pub record IsPutIn (first last : Tree) (p : HostPath) (bytes : List ℕ) : Type 
 
 abbrev pub PutLeaves : Type 0
 PutLeaves = (p : HostPath) (bytes : List ℕ) (totals : Totals) (now : Instant) (first : Tree) (qs : List Question) (es : List Exchange) (trees : List Tree)
-    → IsPut p bytes qs (Ok totals) → Fits qs es → IsSession now first es trees → IsPutIn first (latest first trees) p bytes
+    → IsPut p bytes qs (Ok totals) → Fits qs es → AllAt now es → IsSession first es trees → IsPutIn first (latest first trees) p bytes
 
 -- the file is new, and has a front part of these bytes, or the tree is as it was
 abbrev pub IsPutPart : Tree → Tree → HostPath → List ℕ → Type 0
@@ -55,7 +55,7 @@ IsPutPart first last p bytes = (last ≡ first) ⊎ ((part : List ℕ) × (rest 
 
 abbrev pub PutLeavesPart : Type 0
 PutLeavesPart = (p : HostPath) (bytes : List ℕ) (e : Stop) (now : Instant) (first : Tree) (qs : List Question) (es : List Exchange) (trees : List Tree)
-    → IsPut p bytes qs (Err e) → Fits qs es → IsSession now first es trees → IsPutPart first (latest first trees) p bytes
+    → IsPut p bytes qs (Err e) → Fits qs es → AllAt now es → IsSession first es trees → IsPutPart first (latest first trees) p bytes
 
 -- the file's bytes were written, and no byte more
 abbrev pub IsWritten : Tree → HostPath → Stream → Type 0
@@ -63,7 +63,7 @@ IsWritten t p output = (bytes : List ℕ) × (HasFile t p bytes × (output.new �
 
 abbrev pub GetTells : Type 0
 GetTells = (p : HostPath) (output : Stream) (now : Instant) (first : Tree) (qs : List Question) (es : List Exchange) (trees : List Tree)
-    → IsGet p qs output {X = Unit {0}} (Ok tt) → Fits qs es → IsSession now first es trees → (latest first trees ≡ first) × IsWritten first p output
+    → IsGet p qs output {X = Unit {0}} (Ok tt) → Fits qs es → AllAt now es → IsSession first es trees → (latest first trees ≡ first) × IsWritten first p output
 
 -- nothing was written, or a front part of the file's bytes
 abbrev pub IsWrittenPart : Tree → HostPath → Stream → Type 0
@@ -78,7 +78,7 @@ GetFails t now p output stop.Stopped = IsWrittenPart t p output
 
 abbrev pub GetTellsPart : Type 0
 GetTellsPart = (p : HostPath) (output : Stream) (e : Stop) (now : Instant) (first : Tree) (qs : List Question) (es : List Exchange) (trees : List Tree)
-    → IsGet p qs output {X = Unit {0}} (Err e) → Fits qs es → IsSession now first es trees → (latest first trees ≡ first) × GetFails first now p output e
+    → IsGet p qs output {X = Unit {0}} (Err e) → Fits qs es → AllAt now es → IsSession first es trees → (latest first trees ≡ first) × GetFails first now p output e
 
 -- the status of one that ended so where nothing failed: it stopped by want of memory, or by a block with its last version
 abbrev pub IsFairEnd : {X : Type 0} → Result X Stop → Option Answer → Status → Type 0

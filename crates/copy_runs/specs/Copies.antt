@@ -1,6 +1,7 @@
 -- Copies, as what a session asks.
 use Rattle.std.specs.Prelude.{◌≡◌, ℕ, true, false, List}
 use Rattle.std.specs.declared.option.Option.{Option}
+use Rattle.fs_model.specs.Instant.{Instant}
 use Rattle.copy_file.specs.answers.Sessions.{Exchange}
 use Rattle.copy_file.specs.Coming.{ComesPut, ComesGet}
 use Rattle.copy_file.specs.copy_sessions.Coming.{ComesImport, ComesExport}
@@ -15,22 +16,22 @@ use Rattle.copy_runs.specs.declared.get.Get.{Get}
 use Rattle.copy_runs.specs.declared.import.Import.{Import}
 use Rattle.copy_runs.specs.declared.put.Put.{Put}
 
--- an import to this path; the folder stays
-abbrev pub Imports : HostPath → HostSeen → Stream → Stream → Option (List ℕ) → End → Status → List Exchange → Type 0
-Imports path host input output script end own es = (host.new ≡ host.old) × ComesImport host.old host.faults host.risen path input output script end own es
+-- an import to this path at this moment; the folder stays
+abbrev pub Imports : Instant → HostPath → HostSeen → Stream → Stream → Option (List ℕ) → End → Status → List Exchange → Type 0
+Imports now path host input output script end own es = (host.new ≡ host.old) × ComesImport now host.old host.faults host.risen path input output script end own es
 
--- an export of this path
-abbrev pub Exports : HostPath → HostSeen → Stream → Stream → Option (List ℕ) → End → Status → List Exchange → Type 0
-Exports path host = ComesExport host.old host.new host.faults host.risen path
+-- an export of this path at this moment
+abbrev pub Exports : Instant → HostPath → HostSeen → Stream → Stream → Option (List ℕ) → End → Status → List Exchange → Type 0
+Exports now path host = ComesExport now host.old host.new host.faults host.risen path
 
 abbrev pub import_manner : Manner Import
-import_manner = record { fits = λ a. Unit {0}; moment = λ a. a.now; copies = true; Comes = λ a. Imports a.path }
+import_manner = record { fits = λ a. Unit {0}; copies = true; Comes = λ a. Imports a.now a.path }
 
 abbrev pub export_manner : Manner Export
-export_manner = record { fits = λ a. Unit {0}; moment = λ a. a.now; copies = true; Comes = λ a. Exports a.path }
+export_manner = record { fits = λ a. Unit {0}; copies = true; Comes = λ a. Exports a.now a.path }
 
 abbrev pub put_manner : Manner Put
-put_manner = record { fits = λ a. Unit {0}; moment = λ a. a.now; copies = false; Comes = λ a host. ComesPut a.path }
+put_manner = record { fits = λ a. Unit {0}; copies = false; Comes = λ a host. ComesPut a.now a.path }
 
 abbrev pub get_manner : Manner Get
-get_manner = record { fits = λ a. Unit {0}; moment = λ a. a.now; copies = false; Comes = λ a host. ComesGet a.path }
+get_manner = record { fits = λ a. Unit {0}; copies = false; Comes = λ a host. ComesGet a.now a.path }

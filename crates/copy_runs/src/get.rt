@@ -2,7 +2,7 @@
 ghost use Rattle.std.specs.Prelude.{◌≡◌, ◌≤◌, List};
 ghost use Rattle.copy_file.specs.line_io.Streams.{stream_of, Stream};
 ghost use Rattle.copy_file.specs.answers.Hosts.{Ran};
-ghost use Rattle.copy_file.specs.answers.Sessions.{Exchange};
+ghost use Rattle.copy_file.specs.answers.Sessions.{Exchange, AllAt};
 ghost use Rattle.copy_file.specs.session_lines.Driven.{IsUnfailed};
 ghost use Rattle.shell_runs.specs.mount.Mounts.{IsReady};
 ghost use Rattle.shell_runs.specs.run_frame.Statuses.{IsOwn};
@@ -34,7 +34,8 @@ fn get_told<O: Sink, V: Vault, K: Keeper, R: Rng>(
     requires fresh { IsFresh V.trace V.faults K.Keeper asker.old }
     ensures ready { IsReady V.trace V.faults K.Keeper asker.new.mounted.mount }
     ensures chance { asker.new.mounted.chance.ghost_name ≡ asker.old.mounted.chance.ghost_name }
-    ensures got { (es : List Exchange) × Ran (mounted_hosting R.stream V.trace V.faults K.Keeper) asker.old.now asker.old.mounted es asker.new.mounted
+    ensures got { (es : List Exchange) × Ran (mounted_hosting R.stream V.trace V.faults K.Keeper) asker.old.mounted es asker.new.mounted
+        × AllAt asker.old.now es
         × ((input : Stream) → IsUnfailed input → IsGetSession from.now input (stream_of O.written O.faults output.old output.new) result.0 result.1 es) }
     ensures own { IsOwn result.1 }
     ensures output_grows { O.faults output.old ≤ O.faults output.new }

@@ -4,7 +4,7 @@ ghost use Rattle.outside.specs.Streams.{Ends};
 ghost use Rattle.copy_file.specs.line_io.Reading.{coming};
 ghost use Rattle.copy_file.specs.line_io.Streams.{stream_of};
 ghost use Rattle.copy_file.specs.answers.Hosts.{Ran};
-ghost use Rattle.copy_file.specs.answers.Sessions.{Exchange};
+ghost use Rattle.copy_file.specs.answers.Sessions.{Exchange, AllAt};
 ghost use Rattle.shell_runs.specs.mount.Mounts.{IsReady};
 ghost use Rattle.shell_runs.specs.run_frame.Statuses.{IsOwn};
 ghost use Rattle.shell_runs.specs.Mounting.{mounted_hosting};
@@ -40,7 +40,8 @@ fn put_told<I: Source, O: Sink, V: Vault, K: Keeper, R: Rng>(
     requires ended { reader.old.ended ≡ true → Ends (coming reader.old.ahead (I.rest input.old)) }
     ensures ready { IsReady V.trace V.faults K.Keeper asker.new.mounted.mount }
     ensures chance { asker.new.mounted.chance.ghost_name ≡ asker.old.mounted.chance.ghost_name }
-    ensures put { (es : List Exchange) × Ran (mounted_hosting R.stream V.trace V.faults K.Keeper) asker.old.now asker.old.mounted es asker.new.mounted
+    ensures put { (es : List Exchange) × Ran (mounted_hosting R.stream V.trace V.faults K.Keeper) asker.old.mounted es asker.new.mounted
+        × AllAt asker.old.now es
         × IsPutSession to reader.old.taken (coming reader.old.ahead (I.rest input.old)) (stream_of I.rest I.faults input.old input.new) (stream_of O.written O.faults output.old output.new) result.0 result.1 es }
     ensures own { IsOwn result.1 }
     ensures input_grows { I.faults input.old ≤ I.faults input.new }

@@ -26,16 +26,18 @@ kept_other Refused before w = refl
 module _ {H : Type 0} (M : Hosting H) (now : Instant) (old new : H) (before : Option Answer) (command : Command) (answer : Answer) (answered : M.answers old now (Ok command) answer new) where
   pub one_reply : (reply : Reply) → answer ≡ Replied reply → WentBy M now old before (record { command = command; outcome = Ok reply } ∷ []) new before
   one_reply reply is = record {
-    es = record { asked = Ok command; answer = answer } ∷ [];
+    es = record { at = now; asked = Ok command; answer = answer } ∷ [];
     ran = (old, refl, answered);
+    moments = (refl, tt);
     fits = ([], record { command = command; outcome = Ok reply }, refl, record { asked = refl; outcome = is }, refl);
     kept = sym (ap (λ z. kept_by z before) is);
   }
 
   pub one_stop : (stopped : Stopped) → is_other answer ≡ true → WentBy M now old before (record { command = command; outcome = Err stopped } ∷ []) new (Some answer)
   one_stop stopped is = record {
-    es = record { asked = Ok command; answer = answer } ∷ [];
+    es = record { at = now; asked = Ok command; answer = answer } ∷ [];
     ran = (old, refl, answered);
+    moments = (refl, tt);
     fits = ([], record { command = command; outcome = Err stopped }, refl, record { asked = refl; outcome = is }, refl);
     kept = kept_other answer before is;
   }

@@ -44,24 +44,25 @@ answered_next true now tree next command answer (Err stopped) w n = n.1
 answered_next false now tree next command answer outcome w n = by_outcome now tree next command answer outcome w n
 
 pub follows : CopyFollows
-follows now first qs [] [] f s = subst (λ z. Followed first now z first) (sym f) refl
-follows now first qs [] (tree ∷ trees) f s = absurd s
-follows now first qs (e ∷ es) [] f s = absurd s
-follows now first qs (e ∷ es) (tree ∷ trees) f s =
-    let step = subst (λ z. Next (violated es) now (latest first trees) z e.answer tree) f.3.asked s.0 in
+follows now first qs [] [] f at s = subst (λ z. Followed first now z first) (sym f) refl
+follows now first qs [] (tree ∷ trees) f at s = absurd s
+follows now first qs (e ∷ es) [] f at s = absurd s
+follows now first qs (e ∷ es) (tree ∷ trees) f at s =
+    let here = subst (λ z. Next (violated es) z (latest first trees) e.asked e.answer tree) at.0 s.0 in
+    let step = subst (λ z. Next (violated es) now (latest first trees) z e.answer tree) f.3.asked here in
     let last = answered_next (violated es) now (latest first trees) tree f.1.command e.answer f.1.outcome f.3.outcome step in
-    subst (λ z. Followed first now z tree) (sym f.2) (followed_last now first (latest first trees) tree f.0 f.1 (follows now first f.0 es trees f.4 s.1) last)
+    subst (λ z. Followed first now z tree) (sym f.2) (followed_last now first (latest first trees) tree f.0 f.1 (follows now first f.0 es trees f.4 at.1 s.1) last)
 
 pub leaves : ImportLeaves
-leaves folder q t totals now first qs es trees is f s =
-    let h = follows now first qs es trees f s in
+leaves folder q t totals now first qs es trees is f at s =
+    let h = follows now first qs es trees f at s in
     record {
       merged = done_merges folder q t qs totals now first (latest first trees) is h;
       same = import_same folder q t qs totals now first (latest first trees) is h;
     }
 
 pub exported : ExportLeaves
-exported before after q totals now first qs es trees is well f s = export_same before after q qs totals now first (latest first trees) is well (follows now first qs es trees f s)
+exported before after q totals now first qs es trees is well f at s = export_same before after q qs totals now first (latest first trees) is well (follows now first qs es trees f at s)
 
 pub part_exported : ExportLeavesPart
-part_exported before after q e now first qs es trees is well f s = export_part before after q qs e now first (latest first trees) is well (follows now first qs es trees f s)
+part_exported before after q e now first qs es trees is well f at s = export_part before after q qs e now first (latest first trees) is well (follows now first qs es trees f at s)

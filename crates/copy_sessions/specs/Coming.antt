@@ -4,8 +4,9 @@ use Rattle.std.specs.declared.option.Option.{Option}
 use Rattle.std.specs.declared.option.Option.TheVariants.{None}
 use Rattle.std.specs.declared.result.Result.{Result}
 use Rattle.std.specs.declared.result.Result.TheVariants.{Err}
+use Rattle.fs_model.specs.Instant.{Instant}
 use Rattle.session_lines.specs.answers.declared.answer.Answer.{Answer}
-use Rattle.session_lines.specs.answers.Sessions.{Exchange}
+use Rattle.session_lines.specs.answers.Sessions.{Exchange, AllAt}
 use Rattle.session_lines.specs.line_io.Streams.{Stream}
 use Rattle.session_lines.specs.Driven.{IsUnfailed, Reported}
 use Rattle.session_lines.specs.declared.end.End.{End}
@@ -46,9 +47,9 @@ pub record IsImportSession (folder : Option HostTree) (faults risen : ℕ) (targ
   pub told : IsCopyTold In result (kept_after None es) output end own
   pub unfailed : IsUnfailed input
 
--- whatever follows the password line
-abbrev pub ComesImport : Option HostTree → ℕ → ℕ → HostPath → Stream → Stream → Option (List ℕ) → End → Status → List Exchange → Type 0
-ComesImport folder faults risen target input output script end own es = IsImportSession folder faults risen target input output end own es
+-- whatever follows the password line; all at this moment
+abbrev pub ComesImport : Instant → Option HostTree → ℕ → ℕ → HostPath → Stream → Stream → Option (List ℕ) → End → Status → List Exchange → Type 0
+ComesImport now folder faults risen target input output script end own es = AllAt now es × IsImportSession folder faults risen target input output end own es
 
 -- The exchanges are the questions of an export of what stands below this path into a folder that was so before and is so after; what it ended with was told, and no read
 -- of the input failed.
@@ -61,6 +62,6 @@ pub record IsExportSession (before after : Option HostTree) (faults risen : ℕ)
   pub told : IsCopyTold Out result (kept_after None es) output end own
   pub unfailed : IsUnfailed input
 
--- whatever follows the password line
-abbrev pub ComesExport : Option HostTree → Option HostTree → ℕ → ℕ → HostPath → Stream → Stream → Option (List ℕ) → End → Status → List Exchange → Type 0
-ComesExport before after faults risen source input output script end own es = IsExportSession before after faults risen source input output end own es
+-- whatever follows the password line; all at this moment
+abbrev pub ComesExport : Instant → Option HostTree → Option HostTree → ℕ → ℕ → HostPath → Stream → Stream → Option (List ℕ) → End → Status → List Exchange → Type 0
+ComesExport now before after faults risen source input output script end own es = AllAt now es × IsExportSession before after faults risen source input output end own es

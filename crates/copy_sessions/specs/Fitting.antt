@@ -9,7 +9,7 @@ use Rattle.fs_model.specs.Instant.{Instant}
 use Rattle.session_lines.specs.answers.declared.answer.Answer.{Answer}
 use Rattle.session_lines.specs.answers.declared.answer.Answer.TheVariants.{Reply as Replied}
 use Rattle.session_lines.specs.answers.Hosts.{Hosting, Ran}
-use Rattle.session_lines.specs.answers.Sessions.{Exchange}
+use Rattle.session_lines.specs.answers.Sessions.{Exchange, AllAt}
 use Rattle.session_lines.specs.answers.Summaries.{is_other}
 use Rattle.copy_laws.specs.declared.asker.Stopped.{Stopped}
 use Rattle.copy_laws.specs.Questions.{Question}
@@ -43,9 +43,10 @@ abbrev pub kept_after : Option Answer → List Exchange → Option Answer
 kept_after before [] = before
 kept_after before (e ∷ es) = kept_by e.answer (kept_after before es)
 
--- these questions, one answer after the other, led from the one to the other
+-- these questions, one answer after the other at this moment, led from the one to the other
 pub record WentBy {H : Type 0} (M : Hosting H) (now : Instant) (old : H) (before : Option Answer) (qs : List Question) (new : H) (after : Option Answer) : Type 0 where
   pub es : List Exchange
-  pub ran : Ran M now old es new
+  pub ran : Ran M old es new
+  pub moments : AllAt now es
   pub fits : Fits qs es
   pub kept : after ≡ kept_after before es

@@ -3,15 +3,12 @@ use Rattle.std.proofs.Common.{◌≡◌, ℕ, List, [], ◌∷◌, ◌++◌, ref
 use Rattle.std.specs.declared.option.Option.{Option}
 use Rattle.fs_model.specs.Instant.{Instant}
 use Rattle.session_lines.specs.answers.declared.answer.Answer.{Answer}
-use Rattle.session_lines.specs.answers.Hosts.{Hosting, Ran}
+use Rattle.session_lines.specs.answers.Hosts.{Hosting}
+use Rattle.session_lines.specs.answers.RanLaws.{ran_append, at_append}
 use Rattle.session_lines.specs.answers.Sessions.{Exchange}
 use Rattle.copy_laws.specs.Questions.{Question, LawfulAsker}
 use Rattle.copy_sessions.specs.Fitting.{Fits, kept_by, kept_after, WentBy}
 use Rattle.copy_sessions.specs.Hosted.{host_asking}
-
-ran_append : {H : Type 0} (M : Hosting H) (now : Instant) (a b c : H) (es fs : List Exchange) → Ran M now a es b → Ran M now b fs c → Ran M now a (fs ++ es) c
-ran_append M now a b c es [] r s = subst (λ z. Ran M now a es z) (sym s) r
-ran_append M now a b c es (f ∷ fs) r s = (s.0, ran_append M now a b s.0 es fs r s.1, s.2)
 
 fits_append : (qs rs : List Question) (es fs : List Exchange) → Fits qs es → Fits rs fs → Fits (qs ++ rs) (fs ++ es)
 fits_append qs rs es [] f g = subst (λ z. Fits z es) (sym (ap (λ z. qs ++ z) g ∙ append-nil qs)) f
@@ -31,14 +28,15 @@ went_then : {H : Type 0} (M : Hosting H) (now : Instant) (a b c : H) (before mid
     → WentBy M now a before (qs ++ rs) c after
 went_then M now a b c before mid after qs rs v w = record {
   es = w.es ++ v.es;
-  ran = ran_append M now a b c v.es w.es v.ran w.ran;
+  ran = ran_append M a b c v.es w.es v.ran w.ran;
+  moments = at_append now v.es w.es v.moments w.moments;
   fits = fits_append qs rs v.es w.es v.fits w.fits;
   kept = w.kept ∙ (ap (λ z. kept_after z w.es) v.kept ∙ sym (kept_append before v.es w.es));
 }
 
 pub host_lawful : {A : Type 0} {H : Type 0} (M : Hosting H) (host : A → H) (moment : A → Instant) (kept : A → Option Answer) (stops : A → ℕ) → LawfulAsker (host_asking M host moment kept stops)
 host_lawful M host moment kept stops = record {
-  none = λ a. (refl, refl, record { es = []; ran = refl; fits = refl; kept = refl });
+  none = λ a. (refl, refl, record { es = []; ran = refl; moments = tt; fits = refl; kept = refl });
   onward = λ a b c qs rs v w. (
     w.0 ∙ v.0,
     w.1 ∙ v.1,

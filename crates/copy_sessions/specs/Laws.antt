@@ -6,7 +6,7 @@ use Rattle.std.specs.declared.result.Result.{Result}
 use Rattle.std.specs.declared.result.Result.TheVariants.{Ok, Err}
 use Rattle.fs_model.specs.Instant.{Instant}
 use Rattle.fs_model.specs.Tree.{Tree, IsWellFormed}
-use Rattle.session_lines.specs.answers.Sessions.{Exchange, IsSession, latest}
+use Rattle.session_lines.specs.answers.Sessions.{Exchange, AllAt, IsSession, latest}
 use Rattle.session_lines.specs.answers.declared.answer.Answer.{Answer}
 use Rattle.session_lines.specs.answers.declared.answer.Answer.TheVariants as answer
 use Rattle.session_lines.specs.line_io.Streams.{Stream}
@@ -27,9 +27,9 @@ use Rattle.copy_laws.specs.Questions.{Question, Followed}
 use Rattle.copy_sessions.specs.Coming.{IsImportSession, IsExportSession}
 use Rattle.copy_sessions.specs.Fitting.{Fits, kept_after}
 
--- the trees of a session are those of its questions, one after the other
+-- the trees of a session at one moment are those of its questions, one after the other
 abbrev pub CopyFollows : Type 0
-CopyFollows = (now : Instant) (first : Tree) (qs : List Question) (es : List Exchange) (trees : List Tree) → Fits qs es → IsSession now first es trees → Followed first now qs (latest first trees)
+CopyFollows = (now : Instant) (first : Tree) (qs : List Question) (es : List Exchange) (trees : List Tree) → Fits qs es → AllAt now es → IsSession first es trees → Followed first now qs (latest first trees)
 
 -- an import that is Ok leaves the folder's tree below its target in the session's last tree, and where nothing stood there it is the same
 pub record IsImported (first last : Tree) (q : HostPath) (t : HostTree) : Type 0 where
@@ -38,17 +38,17 @@ pub record IsImported (first last : Tree) (q : HostPath) (t : HostTree) : Type 0
 
 abbrev pub ImportLeaves : Type 0
 ImportLeaves = (folder : Option HostTree) (q : HostPath) (t : HostTree) (totals : Totals) (now : Instant) (first : Tree) (qs : List Question) (es : List Exchange) (trees : List Tree)
-    → IsImport folder q t qs (Ok totals) → Fits qs es → IsSession now first es trees → IsImported first (latest first trees) q t
+    → IsImport folder q t qs (Ok totals) → Fits qs es → AllAt now es → IsSession first es trees → IsImported first (latest first trees) q t
 
 -- an export that is Ok leaves the tree of the session, and the folder has what stands below the source; the first tree is well formed, as each is that a file system stands for
 abbrev pub ExportLeaves : Type 0
 ExportLeaves = (before after : Option HostTree) (q : HostPath) (totals : Totals) (now : Instant) (first : Tree) (qs : List Question) (es : List Exchange) (trees : List Tree)
-    → IsExport before after q qs (Ok totals) → IsWellFormed first → Fits qs es → IsSession now first es trees → (latest first trees ≡ first) × IsCopyOf before after first q totals
+    → IsExport before after q qs (Ok totals) → IsWellFormed first → Fits qs es → AllAt now es → IsSession first es trees → (latest first trees ≡ first) × IsCopyOf before after first q totals
 
 -- one that fails leaves it as well, and the folder, where it was copied into, is a part of what stands below the source
 abbrev pub ExportLeavesPart : Type 0
 ExportLeavesPart = (before after : Option HostTree) (q : HostPath) (e : CopyFail) (now : Instant) (first : Tree) (qs : List Question) (es : List Exchange) (trees : List Tree)
-    → IsBegun before after q qs (Err e) → IsWellFormed first → Fits qs es → IsSession now first es trees → (latest first trees ≡ first) × OnTold before after (λ v. IsPartBelow v first q)
+    → IsBegun before after q qs (Err e) → IsWellFormed first → Fits qs es → AllAt now es → IsSession first es trees → (latest first trees ≡ first) × OnTold before after (λ v. IsPartBelow v first q)
 
 -- a reply, or memory was refused, or a block that the command would change has its last version
 abbrev pub IsFaultless : Answer → Type 0

@@ -19,6 +19,7 @@ returns-clause-got g c =
     let output = stream_of g.O.Sink.written g.O.Sink.faults c.args.output.now c.get_file-got.new.output in (
       w.es,
       w.ran,
+      w.moments,
       λ input unfailed. get_session M a.now a.mounted b.mounted b.kept r.qs c.args.from.now c.get_file-got.result input output c.get_end.result.0 c.get_end.result.1 w r.is c.get_end.ensures unfailed,
     )
 

@@ -22,6 +22,7 @@ returns-clause-imported g c =
     let output = stream_of g.O.Sink.written g.O.Sink.faults c.args.output.now c.tell_copy.new.output in (
       w.es,
       w.ran,
+      w.moments,
       λ input unfailed. import_session M a.now a.mounted b.mounted b.kept r.qs (g.F.Folder.tree c.args.host.now) (g.F.Folder.faults c.args.host.now) (g.F.Folder.faults c.import-copied.new.host) c.args.target.now r.tree
           c.import-copied.result input output c.tell_copy.result.0 c.tell_copy.result.1 w r.is c.import-copied.ensures.host c.tell_copy.ensures.told unfailed,
     )

@@ -23,6 +23,7 @@ returns-clause-put g c =
     let output = stream_of g.O.Sink.written g.O.Sink.faults c.args.output.now c.tell_put.new.output in (
       w.es,
       w.ran,
+      w.moments,
       put_session M a.now a.mounted b.mounted b.kept r.qs c.args.to c.args.reader.now.taken (coming c.args.reader.now.ahead (g.I.Source.rest c.args.input.now)) r.bytes
           c.put_file-put.result input output c.tell_put.result.0 c.tell_put.result.1 w r.told r.is c.put_file-put.ensures.input c.tell_put.ensures.told,
     )

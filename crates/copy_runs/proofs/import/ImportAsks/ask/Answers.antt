@@ -4,4 +4,4 @@ pub returns-clause-asked : goal.returns-clause-asked
 returns-clause-asked g c =
     let told = c.import_told-end in
     let s = told.ensures.imported in
-    (s.0, s.1, λ old faults e. (told.ensures.same, s.2 (record { old = old; new = g.I.Source.rest c.args.input.now; faults = faults; risen = g.I.Source.faults c.args.input.now }) e.quiet))
+    (s.0, s.1, λ old faults e. (told.ensures.same, (s.2, s.3 (record { old = old; new = g.I.Source.rest c.args.input.now; faults = faults; risen = g.I.Source.faults c.args.input.now }) e.quiet)))

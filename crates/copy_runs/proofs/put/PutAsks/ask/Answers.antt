@@ -13,5 +13,5 @@ returns-clause-asked g c =
     let script = coming reader.ahead input.old in (
       s.0,
       s.1,
-      λ old faults e. put_from_start c.args.self.path reader.taken script old input.old input.new faults input.faults input.risen output told.result.0 told.result.1 s.0 e.counted e.quiet s.2,
+      λ old faults e. (s.2, put_from_start c.args.self.path reader.taken script old input.old input.new faults input.faults input.risen output told.result.0 told.result.1 s.0 e.counted e.quiet s.3),
     )
