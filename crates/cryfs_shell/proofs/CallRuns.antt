@@ -39,7 +39,7 @@ use Rattle.cryfs_shell.specs.History.{Comes, Judges, Meets, IsRunOf}
 still : (password : List ℕ) (o : Outside) → IsQuietRun ShowsFiles password o o
 still password o = record { stands = λ c tree f. f.stands; marked = λ m. (refl, refl); least = λ least takes. takes }
 
-module _ {V : Type 0} {K : Type 0} (trace : V → Option (List Call)) (faults : V → ℕ) (G : KeeperGhosts K) (now : Instant) (given : Stream) (Came : Option (List ℕ) → End → Status → List Exchange → Type 0) (Judged Met : Bool → Type 0) (vault : V) (keeper : K) (ended : Ended V K) where
+module _ {V : Type 0} {K : Type 0} (trace : V → Option (List Call)) (faults : V → ℕ) (G : KeeperGhosts K) (given : Stream) (Came : Option (List ℕ) → End → Status → List Exchange → Type 0) (Judged Met : Bool → Type 0) (vault : V) (keeper : K) (ended : Ended V K) where
   abbrev Before : Outside
   Before = outside_of trace faults G vault keeper
 
@@ -47,7 +47,7 @@ module _ {V : Type 0} {K : Type 0} (trace : V → Option (List Call)) (faults : 
   After = outside_of trace faults G ended.vault ended.keeper
 
   abbrev History : Type 0
-  History = (run : Run) × IsRunOf now given Came Judged Met Before After run
+  History = (run : Run) × IsRunOf given Came Judged Met Before After run
 
   quietly : (password : List ℕ) → IsQuietRun ShowsFiles password Before After → History
   quietly password q = (quiet password Before After, record { is_run = q; came = tt; begins = refl; ends = refl })
@@ -57,11 +57,11 @@ module _ {V : Type 0} {K : Type 0} (trace : V → Option (List Call)) (faults : 
       quietly [] (subst (λ (v : V). IsQuietRun ShowsFiles [] Before (outside_of trace faults G v ended.keeper)) (sym u.same_vault)
       (subst (λ (k : K). IsQuietRun ShowsFiles [] Before (outside_of trace faults G vault k)) (sym u.same_keeper) (still [] Before)))
 
-  session_history : (output : Stream) → Session trace faults G now Came given output vault keeper ended → History
+  session_history : (output : Stream) → Session trace faults G Came given output vault keeper ended → History
   session_history output (inl u) = idly u.uncalled
   session_history output (inr (password, script, has, inl ((error, u), unfailed, unwritten))) = quietly password u.quiet
   session_history output (inr (password, script, has, inr s)) =
-      (session now password Before After s.closing s.es, record { is_run = s.session; came = (refl, script, has, s.end, s.own, s.came); begins = refl; ends = refl })
+      (session password Before After s.closing s.es, record { is_run = s.session; came = (script, has, s.end, s.own, s.came); begins = refl; ends = refl })
 
   told_history : (input output : Stream) → Told trace faults G input output vault keeper ended → History
   told_history input output (inl u) = idly u.uncalled
@@ -117,21 +117,21 @@ other_form words Survey e other = tt
 
 module _ {V : Type 0} {K : Type 0} (trace : V → Option (List Call)) (faults : V → ℕ) (names : V → Option (List (List ℕ))) (G : KeeperGhosts K) (words : List (List ℕ)) (now : Instant) (s : Streams) (vault : V) (keeper : K) (ended : Ended V K) where
   abbrev Done : Form → Type 0
-  Done form = History trace faults G now s.input (Comes words s (Some form)) (Judges (Some form) ended.status) (Meets (Some form) ended.status) vault keeper ended
+  Done form = History trace faults G s.input (Comes words now s (Some form)) (Judges (Some form) ended.status) (Meets (Some form) ended.status) vault keeper ended
 
   pub doing_history : (form : Form) → IsPlain form → Did trace faults names G words now s vault keeper ended (Some form) → Done form
-  doing_history Trial p d = idly trace faults G now s.input (Comes words s (Some Trial)) (Judges (Some Trial) ended.status) (Meets (Some Trial) ended.status) vault keeper ended d.1
-  doing_history (TrialGenerate count) p d = idly trace faults G now s.input (Comes words s (Some (TrialGenerate count))) (Judges (Some (TrialGenerate count)) ended.status) (Meets (Some (TrialGenerate count)) ended.status) vault keeper ended d.2
+  doing_history Trial p d = idly trace faults G s.input (Comes words now s (Some Trial)) (Judges (Some Trial) ended.status) (Meets (Some Trial) ended.status) vault keeper ended d.1
+  doing_history (TrialGenerate count) p d = idly trace faults G s.input (Comes words now s (Some (TrialGenerate count))) (Judges (Some (TrialGenerate count)) ended.status) (Meets (Some (TrialGenerate count)) ended.status) vault keeper ended d.2
   doing_history (Create options) p d = absurd p
-  doing_history Info p d = told_history trace faults G now s.input (Comes words s (Some Info)) (Judges (Some Info) ended.status) (Meets (Some Info) ended.status) vault keeper ended s.input s.output d
-  doing_history Passwd p d = changed_history trace faults G now s.input (Comes words s (Some Passwd)) (Judges (Some Passwd) ended.status) (Meets (Some Passwd) ended.status) vault keeper ended s.chance s.left s.input s.output d
-  doing_history Migrate p d = migrated_history trace faults G now s.input (Comes words s (Some Migrate)) (Judges (Some Migrate) ended.status) (Meets (Some Migrate) ended.status) vault keeper ended s.input s.output (λ bad j. j) d
-  doing_history Shell p d = session_history trace faults G now s.input (Comes words s (Some Shell)) (Judges (Some Shell) ended.status) (Meets (Some Shell) ended.status) vault keeper ended s.output d
-  doing_history (Generate count) p d = session_history trace faults G now s.input (Comes words s (Some (Generate count))) (Judges (Some (Generate count)) ended.status) (Meets (Some (Generate count)) ended.status) vault keeper ended s.output d
-  doing_history Command p d = session_history trace faults G now s.input (Comes words s (Some Command)) (Judges (Some Command) ended.status) (Meets (Some Command) ended.status) vault keeper ended s.output d
-  doing_history (Import path) p d = session_history trace faults G now s.input (Comes words s (Some (Import path))) (Judges (Some (Import path)) ended.status) (Meets (Some (Import path)) ended.status) vault keeper ended s.output d.0
-  doing_history (Export path) p d = session_history trace faults G now s.input (Comes words s (Some (Export path))) (Judges (Some (Export path)) ended.status) (Meets (Some (Export path)) ended.status) vault keeper ended s.output d.0
-  doing_history (Put path) p d = session_history trace faults G now s.input (Comes words s (Some (Put path))) (Judges (Some (Put path)) ended.status) (Meets (Some (Put path)) ended.status) vault keeper ended s.output d
-  doing_history (Get path) p d = session_history trace faults G now s.input (Comes words s (Some (Get path))) (Judges (Some (Get path)) ended.status) (Meets (Some (Get path)) ended.status) vault keeper ended s.output d
-  doing_history Check p d = checked_history trace faults G now s.input (Comes words s (Some Check)) (Judges (Some Check) ended.status) (Meets (Some Check) ended.status) vault keeper ended names s.input s.output (λ bad j. j) d
-  doing_history Survey p d = surveyed_history trace faults G now s.input (Comes words s (Some Survey)) (Judges (Some Survey) ended.status) (Meets (Some Survey) ended.status) vault keeper ended names s.input s.output d
+  doing_history Info p d = told_history trace faults G s.input (Comes words now s (Some Info)) (Judges (Some Info) ended.status) (Meets (Some Info) ended.status) vault keeper ended s.input s.output d
+  doing_history Passwd p d = changed_history trace faults G s.input (Comes words now s (Some Passwd)) (Judges (Some Passwd) ended.status) (Meets (Some Passwd) ended.status) vault keeper ended s.chance s.left s.input s.output d
+  doing_history Migrate p d = migrated_history trace faults G s.input (Comes words now s (Some Migrate)) (Judges (Some Migrate) ended.status) (Meets (Some Migrate) ended.status) vault keeper ended s.input s.output (λ bad j. j) d
+  doing_history Shell p d = session_history trace faults G s.input (Comes words now s (Some Shell)) (Judges (Some Shell) ended.status) (Meets (Some Shell) ended.status) vault keeper ended s.output d
+  doing_history (Generate count) p d = session_history trace faults G s.input (Comes words now s (Some (Generate count))) (Judges (Some (Generate count)) ended.status) (Meets (Some (Generate count)) ended.status) vault keeper ended s.output d
+  doing_history Command p d = session_history trace faults G s.input (Comes words now s (Some Command)) (Judges (Some Command) ended.status) (Meets (Some Command) ended.status) vault keeper ended s.output d
+  doing_history (Import path) p d = session_history trace faults G s.input (Comes words now s (Some (Import path))) (Judges (Some (Import path)) ended.status) (Meets (Some (Import path)) ended.status) vault keeper ended s.output d.0
+  doing_history (Export path) p d = session_history trace faults G s.input (Comes words now s (Some (Export path))) (Judges (Some (Export path)) ended.status) (Meets (Some (Export path)) ended.status) vault keeper ended s.output d.0
+  doing_history (Put path) p d = session_history trace faults G s.input (Comes words now s (Some (Put path))) (Judges (Some (Put path)) ended.status) (Meets (Some (Put path)) ended.status) vault keeper ended s.output d
+  doing_history (Get path) p d = session_history trace faults G s.input (Comes words now s (Some (Get path))) (Judges (Some (Get path)) ended.status) (Meets (Some (Get path)) ended.status) vault keeper ended s.output d
+  doing_history Check p d = checked_history trace faults G s.input (Comes words now s (Some Check)) (Judges (Some Check) ended.status) (Meets (Some Check) ended.status) vault keeper ended names s.input s.output (λ bad j. j) d
+  doing_history Survey p d = surveyed_history trace faults G s.input (Comes words now s (Some Survey)) (Judges (Some Survey) ended.status) (Meets (Some Survey) ended.status) vault keeper ended names s.input s.output d

@@ -2,7 +2,6 @@
 use Rattle.std.proofs.Common.{◌≡◌, ◌⊎◌, ℕ, List, ap, inl, inr}
 use Rattle.std.specs.declared.option.Option.{Option}
 use Rattle.trial_runs.specs.answers.Sessions.{Exchange}
-use Rattle.fs_model.specs.Instant.{Instant}
 use Rattle.copy_runs.specs.host_folder.Folders.{HostTree}
 use Rattle.trial_runs.specs.line_io.Streams.{Stream}
 use Rattle.outside.specs.Trace.{Call}
@@ -14,9 +13,9 @@ use Rattle.copy_runs.specs.shell_runs.Sessions.{Session, IsServed, WasServed}
 use Rattle.cryfs_shell.specs.Copies.{HostSession}
 use Rattle.copy_runs.specs.shell_runs.Hosts.{host_of}
 
-module _ {V : Type 0} {K : Type 0} (trace : V → Option (List Call)) (faults : V → ℕ) (G : KeeperGhosts K) (now : Instant) (input output : Stream) (vault : V) (keeper : K) (ended : Ended V K)
+module _ {V : Type 0} {K : Type 0} (trace : V → Option (List Call)) (faults : V → ℕ) (G : KeeperGhosts K) (input output : Stream) (vault : V) (keeper : K) (ended : Ended V K)
     (Came Other : Option (List ℕ) → End → Status → List Exchange → Type 0) (turn : (script : Option (List ℕ)) (end : End) (own : Status) (es : List Exchange) → Came script end own es → Other script end own es) where
-  served_as : (password : List ℕ) (script : Option (List ℕ)) → IsServed trace faults G now password (Came script) vault keeper ended → IsServed trace faults G now password (Other script) vault keeper ended
+  served_as : (password : List ℕ) (script : Option (List ℕ)) → IsServed trace faults G password (Came script) vault keeper ended → IsServed trace faults G password (Other script) vault keeper ended
   served_as password script s = record {
     es = s.es;
     end = s.end;
@@ -29,14 +28,14 @@ module _ {V : Type 0} {K : Type 0} (trace : V → Option (List Call)) (faults : 
     status = s.status;
   }
 
-  pub session_as : Session trace faults G now Came input output vault keeper ended → Session trace faults G now Other input output vault keeper ended
+  pub session_as : Session trace faults G Came input output vault keeper ended → Session trace faults G Other input output vault keeper ended
   session_as (inl u) = inl u
   session_as (inr (password, script, has, inl unopened)) = inr (password, script, has, inl unopened)
   session_as (inr (password, script, has, inr s)) = inr (password, script, has, inr (served_as password script s))
 
 -- a session that left the folder of the host as it was, or opened a file system
-pub host_session : {V : Type 0} {K : Type 0} (trace : V → Option (List Call)) (faults : V → ℕ) (G : KeeperGhosts K) (now : Instant) (input : Stream) (vault : V) (keeper : K) (ended : Ended V K)
-    (Came : Option (List ℕ) → End → Status → List Exchange → Type 0) (output : Stream) {F : Type 0} (tree : F → Option HostTree) (count : F → ℕ) (old new : F) → Session trace faults G now Came input output vault keeper ended
-    → (new ≡ old) ⊎ WasServed trace faults G now Came input vault keeper ended → HostSession trace faults G now Came input output (host_of tree count old new) vault keeper ended
-host_session trace faults G now input vault keeper ended Came output tree count old new session (inl same) = (session, inl (ap tree same, ap count same))
-host_session trace faults G now input vault keeper ended Came output tree count old new session (inr s) = (session, inr s)
+pub host_session : {V : Type 0} {K : Type 0} (trace : V → Option (List Call)) (faults : V → ℕ) (G : KeeperGhosts K) (input : Stream) (vault : V) (keeper : K) (ended : Ended V K)
+    (Came : Option (List ℕ) → End → Status → List Exchange → Type 0) (output : Stream) {F : Type 0} (tree : F → Option HostTree) (count : F → ℕ) (old new : F) → Session trace faults G Came input output vault keeper ended
+    → (new ≡ old) ⊎ WasServed trace faults G Came input vault keeper ended → HostSession trace faults G Came input output (host_of tree count old new) vault keeper ended
+host_session trace faults G input vault keeper ended Came output tree count old new session (inl same) = (session, inl (ap tree same, ap count same))
+host_session trace faults G input vault keeper ended Came output tree count old new session (inr s) = (session, inr s)

@@ -67,26 +67,26 @@ module _ {V : Type 0} {K : Type 0} (trace : V → Option (List Call)) (faults : 
   abbrev left : Chance
   left = s.left
 
-  shell_causes : (script : Option (List ℕ)) (end : End) (own : Status) (es : List Exchange) → ComesShell input output script end own es → EndCause end input output
-  shell_causes script end own es came = ends_cause script input output es end came.0
+  shell_causes : (script : Option (List ℕ)) (end : End) (own : Status) (es : List Exchange) → ComesShell now input output script end own es → EndCause end input output
+  shell_causes script end own es came = ends_cause script input output es end came.1.0
 
-  generated_causes : (count : ℕ) (script : Option (List ℕ)) (end : End) (own : Status) (es : List Exchange) → ComesGenerated count input output script end own es → EndCause end input output
+  generated_causes : (count : ℕ) (script : Option (List ℕ)) (end : End) (own : Status) (es : List Exchange) → ComesGenerated now count input output script end own es → EndCause end input output
   generated_causes count script end own es came = reported_cause input output _ end came.0.0.3
 
-  command_causes : (script : Option (List ℕ)) (end : End) (own : Status) (es : List Exchange) → ComesCommand (joined words) input output script end own es → EndCause end input output
+  command_causes : (script : Option (List ℕ)) (end : End) (own : Status) (es : List Exchange) → ComesCommand now (joined words) input output script end own es → EndCause end input output
   command_causes script end own es came = reported_cause input output _ end came.0.0.2
 
-  import_causes : (path : HostPath) (script : Option (List ℕ)) (end : End) (own : Status) (es : List Exchange) → Imports path host input output script end own es → EndCause end input output
-  import_causes path script end own es (same, came) = reported_cause input output _ end came.told.written
+  import_causes : (path : HostPath) (script : Option (List ℕ)) (end : End) (own : Status) (es : List Exchange) → Imports now path host input output script end own es → EndCause end input output
+  import_causes path script end own es (same, came) = reported_cause input output _ end came.1.told.written
 
-  export_causes : (path : HostPath) (script : Option (List ℕ)) (end : End) (own : Status) (es : List Exchange) → Exports path host input output script end own es → EndCause end input output
-  export_causes path script end own es came = reported_cause input output _ end came.told.written
+  export_causes : (path : HostPath) (script : Option (List ℕ)) (end : End) (own : Status) (es : List Exchange) → Exports now path host input output script end own es → EndCause end input output
+  export_causes path script end own es came = reported_cause input output _ end came.1.told.written
 
-  put_causes : (path : HostPath) (script : Option (List ℕ)) (end : End) (own : Status) (es : List Exchange) → ComesPut path input output script end own es → EndCause end input output
-  put_causes path script = put_cause path script input output
+  put_causes : (path : HostPath) (script : Option (List ℕ)) (end : End) (own : Status) (es : List Exchange) → ComesPut now path input output script end own es → EndCause end input output
+  put_causes path script end own es came = put_cause path script input output end own es came.1
 
-  get_causes : (path : HostPath) (script : Option (List ℕ)) (end : End) (own : Status) (es : List Exchange) → ComesGet path input output script end own es → EndCause end input output
-  get_causes path script end own es came = get_cause path input output end own es came
+  get_causes : (path : HostPath) (script : Option (List ℕ)) (end : End) (own : Status) (es : List Exchange) → ComesGet now path input output script end own es → EndCause end input output
+  get_causes path script end own es came = get_cause path input output end own es came.1
 
   abbrev Doing : Form → Type 0
   Doing form = Did trace faults names G words now s vault keeper ended (Some form)
@@ -101,13 +101,13 @@ module _ {V : Type 0} {K : Type 0} (trace : V → Option (List Call)) (faults : 
   doing_faults Info d k = told_faults trace faults G input output vault keeper ended k d
   doing_faults Passwd d k = changed_faults trace faults G input output vault keeper ended k chance left d
   doing_faults Migrate d k = migrated_faults trace faults G input output vault keeper ended d
-  doing_faults Shell d k = session_faults trace faults G input output vault keeper ended now (ComesShell input output) shell_causes d
-  doing_faults (Generate count) d k = session_faults trace faults G input output vault keeper ended now (ComesGenerated count input output) (generated_causes count) d
-  doing_faults Command d k = session_faults trace faults G input output vault keeper ended now (ComesCommand (joined words) input output) command_causes d
-  doing_faults (Import path) d k = session_faults trace faults G input output vault keeper ended now (Imports path host input output) (import_causes path) d.0
-  doing_faults (Export path) d k = session_faults trace faults G input output vault keeper ended now (Exports path host input output) (export_causes path) d.0
-  doing_faults (Put path) d k = session_faults trace faults G input output vault keeper ended now (ComesPut path input output) (put_causes path) d
-  doing_faults (Get path) d k = session_faults trace faults G input output vault keeper ended now (ComesGet path input output) (get_causes path) d
+  doing_faults Shell d k = session_faults trace faults G input output vault keeper ended (ComesShell now input output) shell_causes d
+  doing_faults (Generate count) d k = session_faults trace faults G input output vault keeper ended (ComesGenerated now count input output) (generated_causes count) d
+  doing_faults Command d k = session_faults trace faults G input output vault keeper ended (ComesCommand now (joined words) input output) command_causes d
+  doing_faults (Import path) d k = session_faults trace faults G input output vault keeper ended (Imports now path host input output) (import_causes path) d.0
+  doing_faults (Export path) d k = session_faults trace faults G input output vault keeper ended (Exports now path host input output) (export_causes path) d.0
+  doing_faults (Put path) d k = session_faults trace faults G input output vault keeper ended (ComesPut now path input output) (put_causes path) d
+  doing_faults (Get path) d k = session_faults trace faults G input output vault keeper ended (ComesGet now path input output) (get_causes path) d
   doing_faults Check d k = checked_faults trace faults names G input output vault keeper ended k d
   doing_faults Survey d k = surveyed_faults trace faults names G input output vault keeper ended k d
 
@@ -118,13 +118,13 @@ module _ {V : Type 0} {K : Type 0} (trace : V → Option (List Call)) (faults : 
   doing_refusal Info e d k marked = told_refusal trace faults G input output vault keeper ended k d marked
   doing_refusal Passwd e d k marked = changed_refusal trace faults G input output vault keeper ended k chance left d marked
   doing_refusal Migrate e d k marked = migrated_refusal trace faults G input output vault keeper ended d marked
-  doing_refusal Shell e d k marked = session_refusal trace faults G input output vault keeper ended now (ComesShell input output) shell_causes d marked
-  doing_refusal (Generate count) e d k marked = session_refusal trace faults G input output vault keeper ended now (ComesGenerated count input output) (generated_causes count) d marked
-  doing_refusal Command e d k marked = session_refusal trace faults G input output vault keeper ended now (ComesCommand (joined words) input output) command_causes d marked
-  doing_refusal (Import path) e d k marked = session_refusal trace faults G input output vault keeper ended now (Imports path host input output) (import_causes path) d.0 marked
-  doing_refusal (Export path) e d k marked = session_refusal trace faults G input output vault keeper ended now (Exports path host input output) (export_causes path) d.0 marked
-  doing_refusal (Put path) e d k marked = session_refusal trace faults G input output vault keeper ended now (ComesPut path input output) (put_causes path) d marked
-  doing_refusal (Get path) e d k marked = session_refusal trace faults G input output vault keeper ended now (ComesGet path input output) (get_causes path) d marked
+  doing_refusal Shell e d k marked = session_refusal trace faults G input output vault keeper ended (ComesShell now input output) shell_causes d marked
+  doing_refusal (Generate count) e d k marked = session_refusal trace faults G input output vault keeper ended (ComesGenerated now count input output) (generated_causes count) d marked
+  doing_refusal Command e d k marked = session_refusal trace faults G input output vault keeper ended (ComesCommand now (joined words) input output) command_causes d marked
+  doing_refusal (Import path) e d k marked = session_refusal trace faults G input output vault keeper ended (Imports now path host input output) (import_causes path) d.0 marked
+  doing_refusal (Export path) e d k marked = session_refusal trace faults G input output vault keeper ended (Exports now path host input output) (export_causes path) d.0 marked
+  doing_refusal (Put path) e d k marked = session_refusal trace faults G input output vault keeper ended (ComesPut now path input output) (put_causes path) d marked
+  doing_refusal (Get path) e d k marked = session_refusal trace faults G input output vault keeper ended (ComesGet now path input output) (get_causes path) d marked
   doing_refusal Check e d k marked = checked_refusal trace faults names G input output vault keeper ended k d marked
   doing_refusal Survey e d k marked = surveyed_refusal trace faults names G input output vault keeper ended k d marked
 
@@ -135,13 +135,13 @@ module _ {V : Type 0} {K : Type 0} (trace : V → Option (List Call)) (faults : 
   doing_alarm Info d k bytes c first f honest e = told_alarm trace faults G input output vault keeper ended k d bytes c first f honest e
   doing_alarm Passwd d k bytes c first f honest e = changed_alarm trace faults G input output vault keeper ended k chance left d bytes c first f honest e
   doing_alarm Migrate d k bytes c first f honest e = migrated_alarm trace faults G input output vault keeper ended d bytes c first f honest e
-  doing_alarm Shell d k bytes c first f honest e = session_alarm trace faults G input output vault keeper ended now (ComesShell input output) shell_causes d bytes c first f honest e
-  doing_alarm (Generate count) d k bytes c first f honest e = session_alarm trace faults G input output vault keeper ended now (ComesGenerated count input output) (generated_causes count) d bytes c first f honest e
-  doing_alarm Command d k bytes c first f honest e = session_alarm trace faults G input output vault keeper ended now (ComesCommand (joined words) input output) command_causes d bytes c first f honest e
-  doing_alarm (Import path) d k bytes c first f honest e = session_alarm trace faults G input output vault keeper ended now (Imports path host input output) (import_causes path) d.0 bytes c first f honest e
-  doing_alarm (Export path) d k bytes c first f honest e = session_alarm trace faults G input output vault keeper ended now (Exports path host input output) (export_causes path) d.0 bytes c first f honest e
-  doing_alarm (Put path) d k bytes c first f honest e = session_alarm trace faults G input output vault keeper ended now (ComesPut path input output) (put_causes path) d bytes c first f honest e
-  doing_alarm (Get path) d k bytes c first f honest e = session_alarm trace faults G input output vault keeper ended now (ComesGet path input output) (get_causes path) d bytes c first f honest e
+  doing_alarm Shell d k bytes c first f honest e = session_alarm trace faults G input output vault keeper ended (ComesShell now input output) shell_causes d bytes c first f honest e
+  doing_alarm (Generate count) d k bytes c first f honest e = session_alarm trace faults G input output vault keeper ended (ComesGenerated now count input output) (generated_causes count) d bytes c first f honest e
+  doing_alarm Command d k bytes c first f honest e = session_alarm trace faults G input output vault keeper ended (ComesCommand now (joined words) input output) command_causes d bytes c first f honest e
+  doing_alarm (Import path) d k bytes c first f honest e = session_alarm trace faults G input output vault keeper ended (Imports now path host input output) (import_causes path) d.0 bytes c first f honest e
+  doing_alarm (Export path) d k bytes c first f honest e = session_alarm trace faults G input output vault keeper ended (Exports now path host input output) (export_causes path) d.0 bytes c first f honest e
+  doing_alarm (Put path) d k bytes c first f honest e = session_alarm trace faults G input output vault keeper ended (ComesPut now path input output) (put_causes path) d bytes c first f honest e
+  doing_alarm (Get path) d k bytes c first f honest e = session_alarm trace faults G input output vault keeper ended (ComesGet now path input output) (get_causes path) d bytes c first f honest e
   doing_alarm Check d k bytes c first f honest e = checked_alarm trace faults names G input output vault keeper ended k d bytes c first f honest e
   doing_alarm Survey d k bytes c first f honest e = surveyed_alarm trace faults names G input output vault keeper ended k d bytes c first f honest e
 
@@ -152,13 +152,13 @@ module _ {V : Type 0} {K : Type 0} (trace : V → Option (List Call)) (faults : 
   doing_keeps Info e d k bytes c first f = told_keeps trace faults G input output vault keeper ended k d bytes c first f
   doing_keeps Passwd e d k bytes c first f = changed_keeps trace faults G input output vault keeper ended k chance left d bytes c first f
   doing_keeps Migrate e d k bytes c first f = migrated_keeps trace faults G input output vault keeper ended d bytes c first f
-  doing_keeps Shell e d k bytes c first f = session_keeps trace faults G input output vault keeper ended now (ComesShell input output) shell_causes d bytes c first f
-  doing_keeps (Generate count) e d k bytes c first f = session_keeps trace faults G input output vault keeper ended now (ComesGenerated count input output) (generated_causes count) d bytes c first f
-  doing_keeps Command e d k bytes c first f = session_keeps trace faults G input output vault keeper ended now (ComesCommand (joined words) input output) command_causes d bytes c first f
-  doing_keeps (Import path) e d k bytes c first f = session_keeps trace faults G input output vault keeper ended now (Imports path host input output) (import_causes path) d.0 bytes c first f
-  doing_keeps (Export path) e d k bytes c first f = session_keeps trace faults G input output vault keeper ended now (Exports path host input output) (export_causes path) d.0 bytes c first f
-  doing_keeps (Put path) e d k bytes c first f = session_keeps trace faults G input output vault keeper ended now (ComesPut path input output) (put_causes path) d bytes c first f
-  doing_keeps (Get path) e d k bytes c first f = session_keeps trace faults G input output vault keeper ended now (ComesGet path input output) (get_causes path) d bytes c first f
+  doing_keeps Shell e d k bytes c first f = session_keeps trace faults G input output vault keeper ended (ComesShell now input output) shell_causes d bytes c first f
+  doing_keeps (Generate count) e d k bytes c first f = session_keeps trace faults G input output vault keeper ended (ComesGenerated now count input output) (generated_causes count) d bytes c first f
+  doing_keeps Command e d k bytes c first f = session_keeps trace faults G input output vault keeper ended (ComesCommand now (joined words) input output) command_causes d bytes c first f
+  doing_keeps (Import path) e d k bytes c first f = session_keeps trace faults G input output vault keeper ended (Imports now path host input output) (import_causes path) d.0 bytes c first f
+  doing_keeps (Export path) e d k bytes c first f = session_keeps trace faults G input output vault keeper ended (Exports now path host input output) (export_causes path) d.0 bytes c first f
+  doing_keeps (Put path) e d k bytes c first f = session_keeps trace faults G input output vault keeper ended (ComesPut now path input output) (put_causes path) d bytes c first f
+  doing_keeps (Get path) e d k bytes c first f = session_keeps trace faults G input output vault keeper ended (ComesGet now path input output) (get_causes path) d bytes c first f
   doing_keeps Check e d k bytes c first f = checked_keeps trace faults names G input output vault keeper ended k d bytes c first f
   doing_keeps Survey e d k bytes c first f = surveyed_keeps trace faults names G input output vault keeper ended k d bytes c first f
 
@@ -169,13 +169,13 @@ module _ {V : Type 0} {K : Type 0} (trace : V → Option (List Call)) (faults : 
   doing_emptied Info q d e = absurd (cc)
   doing_emptied Passwd q d e = absurd (cc)
   doing_emptied Migrate q d e = absurd (cc)
-  doing_emptied Shell q d e = session_emptied trace faults G input output vault keeper ended now (ComesShell input output) shell_causes d e
-  doing_emptied (Generate count) q d e = session_emptied trace faults G input output vault keeper ended now (ComesGenerated count input output) (generated_causes count) d e
-  doing_emptied Command q d e = session_emptied trace faults G input output vault keeper ended now (ComesCommand (joined words) input output) command_causes d e
-  doing_emptied (Import path) q d e = session_emptied trace faults G input output vault keeper ended now (Imports path host input output) (import_causes path) d.0 e
-  doing_emptied (Export path) q d e = session_emptied trace faults G input output vault keeper ended now (Exports path host input output) (export_causes path) d.0 e
-  doing_emptied (Put path) q d e = session_emptied trace faults G input output vault keeper ended now (ComesPut path input output) (put_causes path) d e
-  doing_emptied (Get path) q d e = session_emptied trace faults G input output vault keeper ended now (ComesGet path input output) (get_causes path) d e
+  doing_emptied Shell q d e = session_emptied trace faults G input output vault keeper ended (ComesShell now input output) shell_causes d e
+  doing_emptied (Generate count) q d e = session_emptied trace faults G input output vault keeper ended (ComesGenerated now count input output) (generated_causes count) d e
+  doing_emptied Command q d e = session_emptied trace faults G input output vault keeper ended (ComesCommand now (joined words) input output) command_causes d e
+  doing_emptied (Import path) q d e = session_emptied trace faults G input output vault keeper ended (Imports now path host input output) (import_causes path) d.0 e
+  doing_emptied (Export path) q d e = session_emptied trace faults G input output vault keeper ended (Exports now path host input output) (export_causes path) d.0 e
+  doing_emptied (Put path) q d e = session_emptied trace faults G input output vault keeper ended (ComesPut now path input output) (put_causes path) d e
+  doing_emptied (Get path) q d e = session_emptied trace faults G input output vault keeper ended (ComesGet now path input output) (get_causes path) d e
   doing_emptied Check q d e = absurd (cc)
   doing_emptied Survey q d e = absurd (cc)
 
@@ -186,13 +186,13 @@ module _ {V : Type 0} {K : Type 0} (trace : V → Option (List Call)) (faults : 
   doing_uncalled Info d k e = told_uncalled trace faults G input output vault keeper ended k d e
   doing_uncalled Passwd d k e = changed_uncalled trace faults G input output vault keeper ended k chance left d e
   doing_uncalled Migrate d k e = migrated_uncalled trace faults G input output vault keeper ended d e
-  doing_uncalled Shell d k e = session_uncalled trace faults G input output vault keeper ended now (ComesShell input output) shell_causes d e
-  doing_uncalled (Generate count) d k e = session_uncalled trace faults G input output vault keeper ended now (ComesGenerated count input output) (generated_causes count) d e
-  doing_uncalled Command d k e = session_uncalled trace faults G input output vault keeper ended now (ComesCommand (joined words) input output) command_causes d e
-  doing_uncalled (Import path) d k e = session_uncalled trace faults G input output vault keeper ended now (Imports path host input output) (import_causes path) d.0 e
-  doing_uncalled (Export path) d k e = session_uncalled trace faults G input output vault keeper ended now (Exports path host input output) (export_causes path) d.0 e
-  doing_uncalled (Put path) d k e = session_uncalled trace faults G input output vault keeper ended now (ComesPut path input output) (put_causes path) d e
-  doing_uncalled (Get path) d k e = session_uncalled trace faults G input output vault keeper ended now (ComesGet path input output) (get_causes path) d e
+  doing_uncalled Shell d k e = session_uncalled trace faults G input output vault keeper ended (ComesShell now input output) shell_causes d e
+  doing_uncalled (Generate count) d k e = session_uncalled trace faults G input output vault keeper ended (ComesGenerated now count input output) (generated_causes count) d e
+  doing_uncalled Command d k e = session_uncalled trace faults G input output vault keeper ended (ComesCommand now (joined words) input output) command_causes d e
+  doing_uncalled (Import path) d k e = session_uncalled trace faults G input output vault keeper ended (Imports now path host input output) (import_causes path) d.0 e
+  doing_uncalled (Export path) d k e = session_uncalled trace faults G input output vault keeper ended (Exports now path host input output) (export_causes path) d.0 e
+  doing_uncalled (Put path) d k e = session_uncalled trace faults G input output vault keeper ended (ComesPut now path input output) (put_causes path) d e
+  doing_uncalled (Get path) d k e = session_uncalled trace faults G input output vault keeper ended (ComesGet now path input output) (get_causes path) d e
   doing_uncalled Check d k e = checked_uncalled trace faults names G input output vault keeper ended k d e
   doing_uncalled Survey d k e = surveyed_uncalled trace faults names G input output vault keeper ended k d e
 
@@ -203,13 +203,13 @@ module _ {V : Type 0} {K : Type 0} (trace : V → Option (List Call)) (faults : 
   doing_usage Info d k e = told_usage trace faults G input output vault keeper ended k d e
   doing_usage Passwd d k e = changed_usage trace faults G input output vault keeper ended k chance left d e
   doing_usage Migrate d k e = migrated_usage trace faults G input output vault keeper ended d e
-  doing_usage Shell d k e = session_usage trace faults G input output vault keeper ended now (ComesShell input output) shell_causes d e
-  doing_usage (Generate count) d k e = session_usage trace faults G input output vault keeper ended now (ComesGenerated count input output) (generated_causes count) d e
-  doing_usage Command d k e = session_usage trace faults G input output vault keeper ended now (ComesCommand (joined words) input output) command_causes d e
-  doing_usage (Import path) d k e = session_usage trace faults G input output vault keeper ended now (Imports path host input output) (import_causes path) d.0 e
-  doing_usage (Export path) d k e = session_usage trace faults G input output vault keeper ended now (Exports path host input output) (export_causes path) d.0 e
-  doing_usage (Put path) d k e = session_usage trace faults G input output vault keeper ended now (ComesPut path input output) (put_causes path) d e
-  doing_usage (Get path) d k e = session_usage trace faults G input output vault keeper ended now (ComesGet path input output) (get_causes path) d e
+  doing_usage Shell d k e = session_usage trace faults G input output vault keeper ended (ComesShell now input output) shell_causes d e
+  doing_usage (Generate count) d k e = session_usage trace faults G input output vault keeper ended (ComesGenerated now count input output) (generated_causes count) d e
+  doing_usage Command d k e = session_usage trace faults G input output vault keeper ended (ComesCommand now (joined words) input output) command_causes d e
+  doing_usage (Import path) d k e = session_usage trace faults G input output vault keeper ended (Imports now path host input output) (import_causes path) d.0 e
+  doing_usage (Export path) d k e = session_usage trace faults G input output vault keeper ended (Exports now path host input output) (export_causes path) d.0 e
+  doing_usage (Put path) d k e = session_usage trace faults G input output vault keeper ended (ComesPut now path input output) (put_causes path) d e
+  doing_usage (Get path) d k e = session_usage trace faults G input output vault keeper ended (ComesGet now path input output) (get_causes path) d e
   doing_usage Check d k e = checked_usage trace faults names G input output vault keeper ended k d e
   doing_usage Survey d k e = surveyed_usage trace faults names G input output vault keeper ended k d e
 
@@ -224,12 +224,12 @@ module _ {V : Type 0} {K : Type 0} (trace : V → Option (List Call)) (faults : 
   doing_host Info d k e = absurd (told_host trace faults G input output vault keeper ended k d e)
   doing_host Passwd d k e = absurd (changed_host trace faults G input output vault keeper ended k chance left d e)
   doing_host Migrate d k e = absurd (migrated_host trace faults G input output vault keeper ended d e)
-  doing_host Shell d k e = session_host trace faults G input output vault keeper ended now (ComesShell input output) shell_causes Rose (λ script end own es came h. absurd (host_undone (sym h ∙ came.1))) d e
-  doing_host (Generate count) d k e = session_host trace faults G input output vault keeper ended now (ComesGenerated count input output) (generated_causes count) Rose (λ script end own es came h. absurd (host_undone (sym h ∙ came.1))) d e
-  doing_host Command d k e = session_host trace faults G input output vault keeper ended now (ComesCommand (joined words) input output) command_causes Rose (λ script end own es came h. absurd (host_undone (sym h ∙ came.1))) d e
-  doing_host (Import path) d k e = session_host trace faults G input output vault keeper ended now (Imports path host input output) (import_causes path) Rose (λ script end own es came h. copy_host _ came.1.result _ output end own host.faults host.risen came.1.told h came.1.host) d.0 e
-  doing_host (Export path) d k e = session_host trace faults G input output vault keeper ended now (Exports path host input output) (export_causes path) Rose (λ script end own es came h. copy_host _ came.result _ output end own host.faults host.risen came.told h came.host) d.0 e
-  doing_host (Put path) d k e = session_host trace faults G input output vault keeper ended now (ComesPut path input output) (put_causes path) Rose (λ script end own es came h. absurd (put_unhosted path 0 script input output end own es came h)) d e
-  doing_host (Get path) d k e = session_host trace faults G input output vault keeper ended now (ComesGet path input output) (get_causes path) Rose (λ script end own es came h. absurd (get_unhosted path input output end own es came h)) d e
+  doing_host Shell d k e = session_host trace faults G input output vault keeper ended (ComesShell now input output) shell_causes Rose (λ script end own es came h. absurd (host_undone (sym h ∙ came.1.1))) d e
+  doing_host (Generate count) d k e = session_host trace faults G input output vault keeper ended (ComesGenerated now count input output) (generated_causes count) Rose (λ script end own es came h. absurd (host_undone (sym h ∙ came.1))) d e
+  doing_host Command d k e = session_host trace faults G input output vault keeper ended (ComesCommand now (joined words) input output) command_causes Rose (λ script end own es came h. absurd (host_undone (sym h ∙ came.1))) d e
+  doing_host (Import path) d k e = session_host trace faults G input output vault keeper ended (Imports now path host input output) (import_causes path) Rose (λ script end own es came h. copy_host _ came.1.1.result _ output end own host.faults host.risen came.1.1.told h came.1.1.host) d.0 e
+  doing_host (Export path) d k e = session_host trace faults G input output vault keeper ended (Exports now path host input output) (export_causes path) Rose (λ script end own es came h. copy_host _ came.1.result _ output end own host.faults host.risen came.1.told h came.1.host) d.0 e
+  doing_host (Put path) d k e = session_host trace faults G input output vault keeper ended (ComesPut now path input output) (put_causes path) Rose (λ script end own es came h. absurd (put_unhosted path 0 script input output end own es came.1 h)) d e
+  doing_host (Get path) d k e = session_host trace faults G input output vault keeper ended (ComesGet now path input output) (get_causes path) Rose (λ script end own es came h. absurd (get_unhosted path input output end own es came.1 h)) d e
   doing_host Check d k e = absurd (checked_host trace faults names G input output vault keeper ended k d e)
   doing_host Survey d k e = absurd (surveyed_host trace faults names G input output vault keeper ended k d e)

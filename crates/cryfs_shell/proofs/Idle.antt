@@ -66,7 +66,7 @@ module _ {V : Type 0} {K : Type 0} (trace : V → Option (List Call)) (faults : 
   idle_statuses asked usage = record { usage = usage; uncalled = λ e. uncalled; done = λ q e. absurd (idle_is_no ended.status Done idle (λ h. h) e) }
 
   pub idle_history : HasHistory words now s (outside_of trace faults G vault keeper) (outside_of trace faults G ended.vault ended.keeper) ended.status
-  idle_history form e other = idly trace faults G now s.input (Comes words s (Some form)) (Judges (Some form) ended.status) (Meets (Some form) ended.status) vault keeper ended uncalled
+  idle_history form e other = idly trace faults G s.input (Comes words now s (Some form)) (Judges (Some form) ended.status) (Meets (Some form) ended.status) vault keeper ended uncalled
 
   -- ---- where memory was refused
 

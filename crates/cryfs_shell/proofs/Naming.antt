@@ -321,11 +321,11 @@ module _ (input output : Stream) where
         let status = session_status (is_violation (told m.migration)) m.end m.closing in
         served_named (is_violation (told m.migration)) m.end m.closing Done ended.status (m.status ∙ or_done status) (reported_quiet input output _ m.end unfailed m.reported)
 
-    session_streams : (now : Instant) (Came : Option (List ℕ) → End → Status → List Exchange → Type 0) → ((script : Option (List ℕ)) (end : End) (own : Status) (es : List Exchange) → Came script end own es → EndQuiet end input output)
-        → Session trace faults G now Came input output vault keeper ended → StreamsNamed
-    session_streams now Came quiet (inl u) = unread_one u
-    session_streams now Came quiet (inr (password, script, has, inl ((error, u), unfailed, unwritten))) = neither ended.status unfailed unwritten.1
-    session_streams now Came quiet (inr (password, script, has, inr s)) = served_named (violated s.es) s.end s.closing s.own ended.status s.status (quiet script s.end s.own s.es s.came)
+    session_streams : (Came : Option (List ℕ) → End → Status → List Exchange → Type 0) → ((script : Option (List ℕ)) (end : End) (own : Status) (es : List Exchange) → Came script end own es → EndQuiet end input output)
+        → Session trace faults G Came input output vault keeper ended → StreamsNamed
+    session_streams Came quiet (inl u) = unread_one u
+    session_streams Came quiet (inr (password, script, has, inl ((error, u), unfailed, unwritten))) = neither ended.status unfailed unwritten.1
+    session_streams Came quiet (inr (password, script, has, inr s)) = served_named (violated s.es) s.end s.closing s.own ended.status s.status (quiet script s.end s.own s.es s.came)
 
 -- ---- by its form
 
@@ -372,17 +372,17 @@ module _ {V : Type 0} {K : Type 0} (trace : V → Option (List Call)) (faults : 
   doing_streams Info d = told_streams input output trace faults G vault keeper ended d
   doing_streams Migrate d = migrated_streams input output trace faults G vault keeper ended d
   doing_streams Passwd d = changed_streams input output trace faults G vault keeper ended chance left d
-  doing_streams Shell d = session_streams input output trace faults G vault keeper ended now (ComesShell input output) (λ script end own es came. ends_quiet script input output es end came.0) d
-  doing_streams (Generate count) d = session_streams input output trace faults G vault keeper ended now (ComesGenerated count input output) (λ script end own es came. reported_quiet input output _ end came.0.1 came.0.0.3) d
+  doing_streams Shell d = session_streams input output trace faults G vault keeper ended (ComesShell now input output) (λ script end own es came. ends_quiet script input output es end came.1.0) d
+  doing_streams (Generate count) d = session_streams input output trace faults G vault keeper ended (ComesGenerated now count input output) (λ script end own es came. reported_quiet input output _ end came.0.1 came.0.0.3) d
   doing_streams Command d =
-      session_streams input output trace faults G vault keeper ended now (ComesCommand (joined words) input output) (λ script end own es came. reported_quiet input output _ end came.0.1 came.0.0.2) d
+      session_streams input output trace faults G vault keeper ended (ComesCommand now (joined words) input output) (λ script end own es came. reported_quiet input output _ end came.0.1 came.0.0.2) d
   doing_streams (Import path) d =
-      session_streams input output trace faults G vault keeper ended now (Imports path host input output) (λ script end own es came. reported_quiet input output _ end came.1.unfailed came.1.told.written) d.0
+      session_streams input output trace faults G vault keeper ended (Imports now path host input output) (λ script end own es came. reported_quiet input output _ end came.1.1.unfailed came.1.1.told.written) d.0
   doing_streams (Export path) d =
-      session_streams input output trace faults G vault keeper ended now (Exports path host input output) (λ script end own es came. reported_quiet input output _ end came.unfailed came.told.written) d.0
+      session_streams input output trace faults G vault keeper ended (Exports now path host input output) (λ script end own es came. reported_quiet input output _ end came.1.unfailed came.1.told.written) d.0
   doing_streams (Put path) d =
-      session_streams input output trace faults G vault keeper ended now (ComesPut path input output) (λ script. put_quiet path script input output) d
+      session_streams input output trace faults G vault keeper ended (ComesPut now path input output) (λ script end own es came. put_quiet path script input output end own es came.1) d
   doing_streams (Get path) d =
-      session_streams input output trace faults G vault keeper ended now (ComesGet path input output) (λ script. get_quiet path input output) d
+      session_streams input output trace faults G vault keeper ended (ComesGet now path input output) (λ script end own es came. get_quiet path input output end own es came.1) d
   doing_streams Check d = checked_streams input output trace faults G vault keeper ended names d
   doing_streams Survey d = surveyed_streams input output trace faults G vault keeper ended names d

@@ -4,7 +4,6 @@ use Rattle.std.specs.declared.option.Option.{Option}
 use Rattle.std.specs.declared.option.Option.TheVariants.{Some}
 use Rattle.trial_runs.specs.answers.Sessions.{Exchange, violated, all_directory_faults, all_state_faults}
 use Rattle.session_laws.specs.config_file.Settings.{Settings}
-use Rattle.fs_model.specs.Instant.{Instant}
 use Rattle.fs_model.specs.Tree.{Tree}
 use Rattle.session_laws.specs.block_versions.Standing.{records}
 use Rattle.trial_runs.specs.line_io.Lines.{first_of, first_line}
@@ -154,12 +153,12 @@ module _ {V : Type 0} {K : Type 0} (trace : V → Option (List Call)) (faults : 
 
     -- ---- where there are exchanges
 
-    module _ (now : Instant) (Came : End → Status → List Exchange → Type 0) (causes : (end : End) (own : Status) (es : List Exchange) → Came end own es → EndCause end input output) where
+    module _ (Came : End → Status → List Exchange → Type 0) (causes : (end : End) (own : Status) (es : List Exchange) → Came end own es → EndCause end input output) where
       -- a status that isn't its own comes from the exchanges, the end of the lines or closing
-      earlier : (s : IsServed trace faults G now password Came vault keeper ended) (other : Status) → (IsOwn other → ⊥) → ended.status ≡ other → session_status (violated s.es) s.end s.closing ≡ other
+      earlier : (s : IsServed trace faults G password Came vault keeper ended) (other : Status) → (IsOwn other → ⊥) → ended.status ≡ other → session_status (violated s.es) s.end s.closing ≡ other
       earlier s other not e = not_own (session_status (violated s.es) s.end s.closing) s.own other s.mild not (sym s.status ∙ e)
 
-      served_faults : IsServed trace faults G now password Came vault keeper ended → FaultsHappened input output Before After ended.status
+      served_faults : IsServed trace faults G password Came vault keeper ended → FaultsHappened input output Before After ended.status
       served_faults s = record {
         vault_grows = rose_grown (all_directory_faults s.es + directory_fault s.closing) (faults vault) (faults ended.vault) s.session.directory_faults_happened;
         keeper_grows = rose_grown (all_state_faults s.es + state_fault s.closing) (G.faults keeper) (G.faults ended.keeper) s.session.state_faults_happened;
@@ -169,70 +168,70 @@ module _ {V : Type 0} {K : Type 0} (trace : V → Option (List Call)) (faults : 
         output_fault = λ e. session_output (violated s.es) s.end s.closing input output (earlier s OutputFault (λ h. h) e) (causes s.end s.own s.es s.came);
       }
 
-      served_unmarked : IsServed trace faults G now password Came vault keeper ended → IsKeptMarked records (G.kept keeper) → ⊥
+      served_unmarked : IsServed trace faults G password Came vault keeper ended → IsKeptMarked records (G.kept keeper) → ⊥
       served_unmarked s marked = loaded_unmarked (G.kept keeper) s.session.attached.attached.state s.session.attached.attached.list s.session.attached.attached.loaded marked
 
-      served_alarm : IsServed trace faults G now password Came vault keeper ended → NoFalseAlarm input Before After ended.status
+      served_alarm : IsServed trace faults G password Came vault keeper ended → NoFalseAlarm input Before After ended.status
       served_alarm s bytes c first f honest e =
           let o = only_opens ShowsFiles password c first Before After (only_under bytes c first f) in
           let a = s.session.founded c first (record { opens = o; unforged = s.session.unforged c first o honest }) in
           let calm : violated s.es ≡ false = unviolated s.es (a.no_false_alarm honest) in
           calm_is_no_alarm s.end s.closing (subst (λ (b : Bool). session_status b s.end s.closing ≡ Violation) calm (earlier s Violation (λ h. h) e))
 
-      served_keeps : IsServed trace faults G now password Came vault keeper ended → KeepsTree input Before After
+      served_keeps : IsServed trace faults G password Came vault keeper ended → KeepsTree input Before After
       served_keeps s bytes c first f =
           elim (s.session.founded c first (record { opens = opens_under bytes c first f.opened; unforged = f.unforged })).kept as (λ _. IsKeptMarked records After.kept ⊎ ((tree : Tree) × OutsideStandsFor ShowsFiles c tree After)) [
             | inl m ↦ inl m.1
             | inr k ↦ inr (k.0, k.2)
           ]
 
-      served_emptied : IsServed trace faults G now password Came vault keeper ended → ended.status ≡ Done → IsEmptied After
+      served_emptied : IsServed trace faults G password Came vault keeper ended → ended.status ≡ Done → IsEmptied After
       served_emptied s e =
           let done : session_status (violated s.es) s.end s.closing ≡ Done = none_before (session_status (violated s.es) s.end s.closing) s.own (sym s.status ∙ e) in
           done_is_closed (violated s.es) s.end s.closing (HasEmptyList (G.kept ended.keeper)) done (s.session.emptied (done_is_calm (violated s.es) s.end s.closing done))
 
   -- ---- together
 
-  module _ (now : Instant) (Came : Option (List ℕ) → End → Status → List Exchange → Type 0) (causes : (script : Option (List ℕ)) (end : End) (own : Status) (es : List Exchange) → Came script end own es → EndCause end input output) where
-    pub session_faults : Session trace faults G now Came input output vault keeper ended → FaultsHappened input output Before After ended.status
+  module _ (Came : Option (List ℕ) → End → Status → List Exchange → Type 0) (causes : (script : Option (List ℕ)) (end : End) (own : Status) (es : List Exchange) → Came script end own es → EndCause end input output) where
+    pub session_faults : Session trace faults G Came input output vault keeper ended → FaultsHappened input output Before After ended.status
     session_faults (inl u) = unread_faults (PasswordUnread input) (one_unread input) u
     session_faults (inr (password, script, has, inl ((error, u), unfailed, unwritten))) = unopened_faults password script has.is_next error u
-    session_faults (inr (password, script, has, inr s)) = served_faults password script has.is_next now (Came script) (causes script) s
+    session_faults (inr (password, script, has, inr s)) = served_faults password script has.is_next (Came script) (causes script) s
 
-    pub session_refusal : Session trace faults G now Came input output vault keeper ended → IsKeptMarked records (G.kept keeper) → IsRefusedRun G.kept output vault keeper ended
+    pub session_refusal : Session trace faults G Came input output vault keeper ended → IsKeptMarked records (G.kept keeper) → IsRefusedRun G.kept output vault keeper ended
     session_refusal (inl u) marked = unread_refusal (PasswordUnread input) (one_unread input) u
     session_refusal (inr (password, script, has, inl ((error, u), unfailed, unwritten))) marked = unopened_refusal password script has.is_next error u unwritten marked
-    session_refusal (inr (password, script, has, inr s)) marked = absurd (served_unmarked password script has.is_next now (Came script) (causes script) s marked)
+    session_refusal (inr (password, script, has, inr s)) marked = absurd (served_unmarked password script has.is_next (Came script) (causes script) s marked)
 
-    pub session_alarm : Session trace faults G now Came input output vault keeper ended → NoFalseAlarm input Before After ended.status
+    pub session_alarm : Session trace faults G Came input output vault keeper ended → NoFalseAlarm input Before After ended.status
     session_alarm (inl u) bytes c first f honest e = unread_is_no ended.status Violation (one_unread input ended.status u.cause).unread e (λ h. h)
     session_alarm (inr (password, script, has, inl ((error, u), unfailed, unwritten))) bytes c first f honest e = unopened_alarm password script has.is_next error u bytes c first f honest e
-    session_alarm (inr (password, script, has, inr s)) bytes c first f honest e = served_alarm password script has.is_next now (Came script) (causes script) s bytes c first f honest e
+    session_alarm (inr (password, script, has, inr s)) bytes c first f honest e = served_alarm password script has.is_next (Came script) (causes script) s bytes c first f honest e
 
-    pub session_keeps : Session trace faults G now Came input output vault keeper ended → KeepsTree input Before After
+    pub session_keeps : Session trace faults G Came input output vault keeper ended → KeepsTree input Before After
     session_keeps (inl u) bytes c first f = unread_keeps (PasswordUnread input) (one_unread input) u bytes c first f
     session_keeps (inr (password, script, has, inl ((error, u), unfailed, unwritten))) bytes c first f = unopened_keeps password script has.is_next error u bytes c first f
-    session_keeps (inr (password, script, has, inr s)) bytes c first f = served_keeps password script has.is_next now (Came script) (causes script) s bytes c first f
+    session_keeps (inr (password, script, has, inr s)) bytes c first f = served_keeps password script has.is_next (Came script) (causes script) s bytes c first f
 
-    pub session_emptied : Session trace faults G now Came input output vault keeper ended → ended.status ≡ Done → IsEmptied After
+    pub session_emptied : Session trace faults G Came input output vault keeper ended → ended.status ≡ Done → IsEmptied After
     session_emptied (inl u) e = absurd (unread_is_no ended.status Done (one_unread input ended.status u.cause).unread e (λ h. h))
     session_emptied (inr (password, script, has, inl ((error, u), unfailed, unwritten))) e = absurd (opening_is_no error ended.status Done u.status e (λ h. h))
-    session_emptied (inr (password, script, has, inr s)) e = served_emptied password script has.is_next now (Came script) (causes script) s e
+    session_emptied (inr (password, script, has, inr s)) e = served_emptied password script has.is_next (Came script) (causes script) s e
 
     -- a session whose password line passes its limit called neither
-    pub session_uncalled : Session trace faults G now Came input output vault keeper ended → ended.status ≡ LongPassword → AreUncalled vault keeper ended
+    pub session_uncalled : Session trace faults G Came input output vault keeper ended → ended.status ≡ LongPassword → AreUncalled vault keeper ended
     session_uncalled (inl u) e = u.uncalled
     session_uncalled (inr (password, script, has, inl ((error, u), unfailed, unwritten))) e = absurd (opening_is_no error ended.status LongPassword u.status e (λ h. h))
     session_uncalled (inr (password, script, has, inr s)) e = absurd (session_is_no (violated s.es) s.end s.closing s.own ended.status LongPassword s.mild s.status e (λ h. h) (λ h. h))
 
-    pub session_usage : Session trace faults G now Came input output vault keeper ended → ended.status ≢ Usage
+    pub session_usage : Session trace faults G Came input output vault keeper ended → ended.status ≢ Usage
     session_usage (inl u) e = unread_is_no ended.status Usage (one_unread input ended.status u.cause).unread e (λ h. h)
     session_usage (inr (password, script, has, inl ((error, u), unfailed, unwritten))) e = opening_is_no error ended.status Usage u.status e (λ h. h)
     session_usage (inr (password, script, has, inr s)) e = session_is_no (violated s.es) s.end s.closing s.own ended.status Usage s.mild s.status e (λ h. h) (λ h. h)
 
     -- where its own status tells a fault of the host folder for a cause only, so does its status
     pub session_host : (Cause : Type 0) → ((script : Option (List ℕ)) (end : End) (own : Status) (es : List Exchange) → Came script end own es → own ≡ HostFault → Cause)
-        → Session trace faults G now Came input output vault keeper ended → ended.status ≡ HostFault → Cause
+        → Session trace faults G Came input output vault keeper ended → ended.status ≡ HostFault → Cause
     session_host Cause hosts (inl u) e = absurd (unread_is_no ended.status HostFault (one_unread input ended.status u.cause).unread e (λ h. h))
     session_host Cause hosts (inr (password, script, has, inl ((error, u), unfailed, unwritten))) e = absurd (opening_is_no error ended.status HostFault u.status e (λ h. h))
     session_host Cause hosts (inr (password, script, has, inr s)) e = hosts script s.end s.own s.es s.came (host_is_own (violated s.es) s.end s.closing s.own (sym s.status ∙ e))

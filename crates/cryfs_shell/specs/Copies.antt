@@ -2,7 +2,6 @@
 use Rattle.std.specs.Prelude.{◌⊎◌, ℕ, List}
 use Rattle.std.specs.declared.option.Option.{Option}
 use Rattle.trial_runs.specs.answers.Sessions.{Exchange}
-use Rattle.fs_model.specs.Instant.{Instant}
 use Rattle.trial_runs.specs.line_io.Streams.{Stream}
 use Rattle.outside.specs.Trace.{Call}
 use Rattle.outside.specs.declared.keeper.Keeper.{Ghosts as KeeperGhosts}
@@ -13,7 +12,7 @@ use Rattle.copy_runs.specs.shell_runs.Sessions.{Session, WasServed}
 use Rattle.copy_runs.specs.shell_runs.Hosts.{HostSeen, IsStill}
 
 -- a session that calls the host folder only where it opened a file system
-abbrev pub HostSession : {V : Type 0} → {K : Type 0} → (V → Option (List Call)) → (V → ℕ) → KeeperGhosts K → Instant → (Option (List ℕ) → End → Status → List Exchange → Type 0)
+abbrev pub HostSession : {V : Type 0} → {K : Type 0} → (V → Option (List Call)) → (V → ℕ) → KeeperGhosts K → (Option (List ℕ) → End → Status → List Exchange → Type 0)
     → Stream → Stream → HostSeen → V → K → Ended V K → Type 0
-HostSession trace faults G now Came input output host vault keeper ended =
-    Session trace faults G now Came input output vault keeper ended × (IsStill host ⊎ WasServed trace faults G now Came input vault keeper ended)
+HostSession trace faults G Came input output host vault keeper ended =
+    Session trace faults G Came input output vault keeper ended × (IsStill host ⊎ WasServed trace faults G Came input vault keeper ended)

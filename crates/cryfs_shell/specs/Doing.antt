@@ -37,13 +37,13 @@ Did trace faults names G words now s vault keeper ended (Some (Create options)) 
 Did trace faults names G words now s vault keeper ended (Some Info) = Told trace faults G s.input s.output vault keeper ended
 Did trace faults names G words now s vault keeper ended (Some Passwd) = RanPasswd trace faults G s.chance s.left s.input s.output vault keeper ended
 Did trace faults names G words now s vault keeper ended (Some Migrate) = RanMigrate trace faults G s.input s.output vault keeper ended
-Did trace faults names G words now s vault keeper ended (Some Shell) = Session trace faults G now (ComesShell s.input s.output) s.input s.output vault keeper ended
-Did trace faults names G words now s vault keeper ended (Some (Generate count)) = Session trace faults G now (ComesGenerated count s.input s.output) s.input s.output vault keeper ended
-Did trace faults names G words now s vault keeper ended (Some Command) = Session trace faults G now (ComesCommand (joined words) s.input s.output) s.input s.output vault keeper ended
-Did trace faults names G words now s vault keeper ended (Some (Import path)) = HostSession trace faults G now (Imports path s.host s.input s.output) s.input s.output s.host vault keeper ended
-Did trace faults names G words now s vault keeper ended (Some (Export path)) = HostSession trace faults G now (Exports path s.host s.input s.output) s.input s.output s.host vault keeper ended
-Did trace faults names G words now s vault keeper ended (Some (Put path)) = Session trace faults G now (ComesPut path s.input s.output) s.input s.output vault keeper ended
-Did trace faults names G words now s vault keeper ended (Some (Get path)) = Session trace faults G now (ComesGet path s.input s.output) s.input s.output vault keeper ended
+Did trace faults names G words now s vault keeper ended (Some Shell) = Session trace faults G (ComesShell now s.input s.output) s.input s.output vault keeper ended
+Did trace faults names G words now s vault keeper ended (Some (Generate count)) = Session trace faults G (ComesGenerated now count s.input s.output) s.input s.output vault keeper ended
+Did trace faults names G words now s vault keeper ended (Some Command) = Session trace faults G (ComesCommand now (joined words) s.input s.output) s.input s.output vault keeper ended
+Did trace faults names G words now s vault keeper ended (Some (Import path)) = HostSession trace faults G (Imports now path s.host s.input s.output) s.input s.output s.host vault keeper ended
+Did trace faults names G words now s vault keeper ended (Some (Export path)) = HostSession trace faults G (Exports now path s.host s.input s.output) s.input s.output s.host vault keeper ended
+Did trace faults names G words now s vault keeper ended (Some (Put path)) = Session trace faults G (ComesPut now path s.input s.output) s.input s.output vault keeper ended
+Did trace faults names G words now s vault keeper ended (Some (Get path)) = Session trace faults G (ComesGet now path s.input s.output) s.input s.output vault keeper ended
 Did trace faults names G words now s vault keeper ended (Some Check) = RanCheck trace faults names G s.input s.output vault keeper ended
 Did trace faults names G words now s vault keeper ended (Some Survey) = RanSurvey trace faults names G s.input s.output vault keeper ended
 

@@ -21,15 +21,15 @@ use Rattle.program_words.specs.Forms.{form_of, is_create, joined}
 use Rattle.check_runs.specs.mount_core.Showing.{ShowsFiles}
 
 -- how the exchanges of what the words ask for come from what follows the password line, and are written; only sessions have some
-abbrev pub Comes : List (List ℕ) → Streams → Option Form → Option (List ℕ) → End → Status → List Exchange → Type 0
-Comes words s (Some Shell) = ComesShell s.input s.output
-Comes words s (Some (Generate count)) = ComesGenerated count s.input s.output
-Comes words s (Some Command) = ComesCommand (joined words) s.input s.output
-Comes words s (Some (Import path)) = Imports path s.host s.input s.output
-Comes words s (Some (Export path)) = Exports path s.host s.input s.output
-Comes words s (Some (Put path)) = ComesPut path s.input s.output
-Comes words s (Some (Get path)) = ComesGet path s.input s.output
-Comes words s asked = λ script end own es. ⊥
+abbrev pub Comes : List (List ℕ) → Instant → Streams → Option Form → Option (List ℕ) → End → Status → List Exchange → Type 0
+Comes words now s (Some Shell) = ComesShell now s.input s.output
+Comes words now s (Some (Generate count)) = ComesGenerated now count s.input s.output
+Comes words now s (Some Command) = ComesCommand now (joined words) s.input s.output
+Comes words now s (Some (Import path)) = Imports now path s.host s.input s.output
+Comes words now s (Some (Export path)) = Exports now path s.host s.input s.output
+Comes words now s (Some (Put path)) = ComesPut now path s.input s.output
+Comes words now s (Some (Get path)) = ComesGet now path s.input s.output
+Comes words now s asked = λ script end own es. ⊥
 
 -- a check is bad exactly where the status is a violation; no other form is a check
 abbrev pub Judges : Option Form → Status → Bool → Type 0
@@ -41,22 +41,22 @@ abbrev pub Meets : Option Form → Status → Bool → Type 0
 Meets (Some Migrate) status bad = (bad ≡ true → status ≡ Violation) × (status ≡ Violation → bad ≡ true)
 Meets asked status bad = ⊥
 
--- At this moment, and under the password of this input, the exchanges of a run came so; its check was judged so, or it met so a violation or none.
-abbrev pub HasCome : Instant → Stream → (Option (List ℕ) → End → Status → List Exchange → Type 0) → (Bool → Type 0) → (Bool → Type 0) → Run → Type 0
-HasCome now input Came Judged Met (session at password before after closing es) =
-    (at ≡ now) × (script : Option (List ℕ)) × HasPassword input password script × (end : End) × (own : Status) × Came script end own es
-HasCome now input Came Judged Met (quiet password before after) = Unit {0}
-HasCome now input Came Judged Met (examined password before after bad) = Judged bad
-HasCome now input Came Judged Met (migrated password before after bad) = Met bad
+-- Under the password of this input the exchanges of a run came so; its check was judged so, or it met so a violation or none.
+abbrev pub HasCome : Stream → (Option (List ℕ) → End → Status → List Exchange → Type 0) → (Bool → Type 0) → (Bool → Type 0) → Run → Type 0
+HasCome input Came Judged Met (session password before after closing es) =
+    (script : Option (List ℕ)) × HasPassword input password script × (end : End) × (own : Status) × Came script end own es
+HasCome input Came Judged Met (quiet password before after) = Unit {0}
+HasCome input Came Judged Met (examined password before after bad) = Judged bad
+HasCome input Came Judged Met (migrated password before after bad) = Met bad
 
 -- the call led from the one moment outside to the other as this run, which is one of those that compose
-pub record IsRunOf (now : Instant) (input : Stream) (Came : Option (List ℕ) → End → Status → List Exchange → Type 0) (Judged Met : Bool → Type 0) (before after : Outside) (run : Run) : Type 0 where
+pub record IsRunOf (input : Stream) (Came : Option (List ℕ) → End → Status → List Exchange → Type 0) (Judged Met : Bool → Type 0) (before after : Outside) (run : Run) : Type 0 where
   pub is_run : IsRun ShowsFiles run
-  pub came : HasCome now input Came Judged Met run
+  pub came : HasCome input Came Judged Met run
   pub begins : before_of run ≡ before
   pub ends : after_of run ≡ after
 
 -- words of a form that isn't that of `create` made the call such a run
 abbrev pub HasHistory : List (List ℕ) → Instant → Streams → Outside → Outside → Status → Type 0
 HasHistory words now s before after status = (form : Form) → form_of words ≡ Some form → is_create words ≡ false
-    → (run : Run) × IsRunOf now s.input (Comes words s (Some form)) (Judges (Some form) status) (Meets (Some form) status) before after run
+    → (run : Run) × IsRunOf s.input (Comes words now s (Some form)) (Judges (Some form) status) (Meets (Some form) status) before after run

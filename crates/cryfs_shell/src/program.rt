@@ -193,8 +193,8 @@ fn run_line<I: Source, O: Sink, V: Vault, K: Keeper, R: Rng, F: Folder>(
     chance: &mut R,
     host: &mut F,
 ) -> Ended<V, K>
-    ensures session { Session V.trace V.faults K.Keeper request.entry.now
-        (ComesCommand (joined (map string_bytes request.entry.words.now)) (stream_of I.rest I.faults input.old input.new)
+    ensures session { Session V.trace V.faults K.Keeper
+        (ComesCommand request.entry.now (joined (map string_bytes request.entry.words.now)) (stream_of I.rest I.faults input.old input.new)
         (stream_of O.written O.faults output.old output.new))
         (stream_of I.rest I.faults input.old input.new) (stream_of O.written O.faults output.old output.new)
         storage.vault storage.keeper result }

@@ -17,8 +17,8 @@ returns-in-Import-clause-did g c =
     let streams = streams_of input output host (g.R.Rng.stream c.args.chance.now) (g.R.Rng.stream r.new.chance) in
     subst (λ form. Did g.V.Vault.trace g.V.Vault.faults g.V.Listing.names g.K.Keeper (map string_bytes c.args.asked.words.now) c.args.asked.now streams c.args.storage.vault c.args.storage.keeper r.result (Some form))
     (sym c.in-Import.is)
-    (host_session g.V.Vault.trace g.V.Vault.faults g.K.Keeper c.args.asked.now input c.args.storage.vault c.args.storage.keeper r.result
-    (Imports c.in-Import.path host input output) output g.F.Folder.tree g.F.Folder.faults c.args.host.now r.new.host r.ensures.session r.ensures.unhosted)
+    (host_session g.V.Vault.trace g.V.Vault.faults g.K.Keeper input c.args.storage.vault c.args.storage.keeper r.result
+    (Imports c.args.asked.now c.in-Import.path host input output) output g.F.Folder.tree g.F.Folder.faults c.args.host.now r.new.host r.ensures.session r.ensures.unhosted)
 
 pub returns-in-Export-clause-did : goal.returns-in-Export-clause-did
 returns-in-Export-clause-did g c =
@@ -29,5 +29,5 @@ returns-in-Export-clause-did g c =
     let streams = streams_of input output host (g.R.Rng.stream c.args.chance.now) (g.R.Rng.stream r.new.chance) in
     subst (λ form. Did g.V.Vault.trace g.V.Vault.faults g.V.Listing.names g.K.Keeper (map string_bytes c.args.asked.words.now) c.args.asked.now streams c.args.storage.vault c.args.storage.keeper r.result (Some form))
     (sym c.in-Export.is)
-    (host_session g.V.Vault.trace g.V.Vault.faults g.K.Keeper c.args.asked.now input c.args.storage.vault c.args.storage.keeper r.result
-    (Exports c.in-Export.path host input output) output g.F.Folder.tree g.F.Folder.faults c.args.host.now r.new.host r.ensures.session r.ensures.unhosted)
+    (host_session g.V.Vault.trace g.V.Vault.faults g.K.Keeper input c.args.storage.vault c.args.storage.keeper r.result
+    (Exports c.args.asked.now c.in-Export.path host input output) output g.F.Folder.tree g.F.Folder.faults c.args.host.now r.new.host r.ensures.session r.ensures.unhosted)
