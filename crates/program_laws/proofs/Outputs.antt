@@ -53,12 +53,12 @@ module _ {V : Type 0} {K : Type 0} (trace : V → Option (List Call)) (faults : 
   not_violated false end closing own is calm e = is ∙ ap (λ x. first_of (session_status false x closing) own) e
 
   module _ (now : Instant) (calm : ended.status ≢ status.Violation) where
-    by_end : (password : List ℕ) (script : Option (List ℕ)) (s : IsServed trace faults G now password (ComesShell input output script) vault keeper ended) (end : End) → s.end ≡ end → IsUnfailed output ⊎ (ended.status ≡ status.OutputFault)
-    by_end password script s Finished is = inl (subst (λ e. ComesShell input output script e s.own s.es) is s.came).0.output_quiet
-    by_end password script s InputFault is = inl (subst (λ e. ComesShell input output script e s.own s.es) is s.came).0.output_quiet
+    by_end : (password : List ℕ) (script : Option (List ℕ)) (s : IsServed trace faults G password (ComesShell now input output script) vault keeper ended) (end : End) → s.end ≡ end → IsUnfailed output ⊎ (ended.status ≡ status.OutputFault)
+    by_end password script s Finished is = inl (subst (λ e. ComesShell now input output script e s.own s.es) is s.came).1.0.output_quiet
+    by_end password script s InputFault is = inl (subst (λ e. ComesShell now input output script e s.own s.es) is s.came).1.0.output_quiet
     by_end password script s OutputFault is = inr (not_violated (violated s.es) s.end s.closing s.own s.status calm is)
 
-    pub session_output : Session trace faults G now (ComesShell input output) input output vault keeper ended → IsUnfailed output ⊎ (ended.status ≡ status.OutputFault)
+    pub session_output : Session trace faults G (ComesShell now input output) input output vault keeper ended → IsUnfailed output ⊎ (ended.status ≡ status.OutputFault)
     session_output (inl u) = inl u.unwritten.1
     session_output (inr (password, script, has, inl ((error, u), unfailed, unwritten))) = inl unwritten.1
     session_output (inr (password, script, has, inr s)) = by_end password script s s.end refl

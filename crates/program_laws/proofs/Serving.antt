@@ -57,22 +57,22 @@ reported output text OutputFault quiet r = absurd (quiet r.1)
 abbrev pub ComesToEnd : (Stream → Stream → Option (List ℕ) → End → Status → List Exchange → Type 0) → Type 0
 ComesToEnd Comes = (input output : Stream) (script : Option (List ℕ)) (end : End) (own : Status) (es : List Exchange) → ¬ HasFailed input → ¬ HasFailed output → ¬ TookMost 0 input → Comes input output script end own es → end ≡ Finished
 
-pub shell_ends : ComesToEnd ComesShell
-shell_ends input output script Finished own es source sink few came = refl
-shell_ends input output script InputFault own es source sink few came = absurd (elim came.0.cause as (λ _. ⊥) [ inl failed ↦ source failed | inr most ↦ few most ])
-shell_ends input output script OutputFault own es source sink few came = absurd (sink came.0.cause)
+pub shell_ends : (now : Instant) → ComesToEnd (ComesShell now)
+shell_ends now input output script Finished own es source sink few came = refl
+shell_ends now input output script InputFault own es source sink few came = absurd (elim came.1.0.cause as (λ _. ⊥) [ inl failed ↦ source failed | inr most ↦ few most ])
+shell_ends now input output script OutputFault own es source sink few came = absurd (sink came.1.0.cause)
 
-pub generated_ends : (count : ℕ) → ComesToEnd (ComesGenerated count)
-generated_ends count input output script end own es source sink few came = reported output _ end sink came.0.0.3
+pub generated_ends : (now : Instant) (count : ℕ) → ComesToEnd (ComesGenerated now count)
+generated_ends now count input output script end own es source sink few came = reported output _ end sink came.0.0.3
 
-pub command_ends : (line : List ℕ) → ComesToEnd (ComesCommand line)
-command_ends line input output script end own es source sink few came = reported output _ end sink came.0.0.2
+pub command_ends : (now : Instant) (line : List ℕ) → ComesToEnd (ComesCommand now line)
+command_ends now line input output script end own es source sink few came = reported output _ end sink came.0.0.2
 
-pub import_ends : (folder : Option HostTree) (faults risen : ℕ) (target : HostPath) → ComesToEnd (ComesImport folder faults risen target)
-import_ends folder faults risen target input output script end own es source sink few came = reported output _ end sink came.told.written
+pub import_ends : (now : Instant) (folder : Option HostTree) (faults risen : ℕ) (target : HostPath) → ComesToEnd (ComesImport now folder faults risen target)
+import_ends now folder faults risen target input output script end own es source sink few came = reported output _ end sink came.1.told.written
 
-pub export_ends : (before after : Option HostTree) (faults risen : ℕ) (from : HostPath) → ComesToEnd (ComesExport before after faults risen from)
-export_ends before after faults risen from input output script end own es source sink few came = reported output _ end sink came.told.written
+pub export_ends : (now : Instant) (before after : Option HostTree) (faults risen : ℕ) (from : HostPath) → ComesToEnd (ComesExport now before after faults risen from)
+export_ends now before after faults risen from input output script end own es source sink few came = reported output _ end sink came.1.told.written
 
 put_by : (path : HostPath) (put : Result Totals Stop) (kept : Option Answer) (input output : Stream) (end : End) (own : Status) → ¬ HasFailed input → ¬ HasFailed output → ¬ TookMost 0 input → InputBy 0 input put → IsPutTold put path kept output end own
     → end ≡ Finished
@@ -82,8 +82,8 @@ put_by path (Err stop.Host) kept input output end own source sink few used told 
 put_by path (Err stop.Stopped) kept input output end own source sink few used told = reported output _ end sink told.written
 put_by path (Err (stop.Refused e)) kept input output end own source sink few used told = reported output _ end sink told.written
 
-pub put_ends : (path : HostPath) → ComesToEnd (ComesPut path)
-put_ends path input output script end own es source sink few came = put_by path came.result _ input output end own source sink few came.used came.told
+pub put_ends : (now : Instant) (path : HostPath) → ComesToEnd (ComesPut now path)
+put_ends now path input output script end own es source sink few came = put_by path came.1.result _ input output end own source sink few came.1.used came.1.told
 
 get_by : (path : HostPath) (qs : List Question) (got : Result (Unit {0}) Stop) (kept : Option Answer) (output : Stream) (end : End) (own : Status) → ¬ HasFailed output → IsGet path qs output got → IsGetEnd got kept end own → end ≡ Finished
 get_by path qs (Ok x) kept output end own sink is ends = ends.0
@@ -92,8 +92,8 @@ get_by path qs (Err stop.Host) kept output end own sink is ends = absurd (sink i
 get_by path qs (Err stop.Stopped) kept output end own sink is ends = ends.0
 get_by path qs (Err (stop.Refused e)) kept output end own sink is ends = ends.0
 
-pub get_ends : (path : HostPath) → ComesToEnd (ComesGet path)
-get_ends path input output script end own es source sink few came = get_by path came.qs came.result _ output end own sink came.is came.ends
+pub get_ends : (now : Instant) (path : HostPath) → ComesToEnd (ComesGet now path)
+get_ends now path input output script end own es source sink few came = get_by path came.1.qs came.1.result _ output end own sink came.1.is came.1.ends
 
 -- ---- no fault was named
 
@@ -131,7 +131,7 @@ module _ (own : Status) where
 
 -- ---- a session
 
-module _ {V : Type 0} {K : Type 0} (trace : V → Option (List Call)) (faults : V → ℕ) (G : KeeperGhosts K) (now : Instant) (input output : Stream) (vault : V) (keeper : K) (ended : Ended V K)
+module _ {V : Type 0} {K : Type 0} (trace : V → Option (List Call)) (faults : V → ℕ) (G : KeeperGhosts K) (input output : Stream) (vault : V) (keeper : K) (ended : Ended V K)
     (bytes : List ℕ) (c : Settings) (first : Tree) (finds : Finds input bytes c first (outside_of trace faults G vault keeper))
     (quiet : OfRun trace faults G vault keeper ended (IsUntroubled input output)) where
   abbrev Before : Outside
@@ -140,8 +140,8 @@ module _ {V : Type 0} {K : Type 0} (trace : V → Option (List Call)) (faults : 
   abbrev After : Outside
   After = outside_of trace faults G ended.vault ended.keeper
 
-  module _ (Came : End → Status → List Exchange → Type 0) (s : IsServed trace faults G now (first_line bytes) Came vault keeper ended) (end : s.end ≡ Finished) where
-    served : IsComplete now Came (first_line bytes) c first Before After ended.status
+  module _ (Came : End → Status → List Exchange → Type 0) (s : IsServed trace faults G (first_line bytes) Came vault keeper ended) (end : s.end ≡ Finished) where
+    served : IsComplete Came (first_line bytes) c first Before After ended.status
     served =
         let f = opens_to input output bytes c first Before After finds quiet in
         let a = s.session.founded c first (record { opens = f; unforged = s.session.unforged c first f quiet.honest }) in
@@ -179,16 +179,16 @@ module _ {V : Type 0} {K : Type 0} (trace : V → Option (List Call)) (faults : 
   module _ (Comes : Stream → Stream → Option (List ℕ) → End → Status → List Exchange → Type 0) (to_end : ComesToEnd Comes) where
     abbrev Outcome : Type 0
     Outcome = FindsNoMemory output (first_line bytes) c first After ended.status
-        ⊎ ((script : Option (List ℕ)) × IsNextPassword input.old (first_line bytes) script × IsComplete now (Comes input output script) (first_line bytes) c first Before After ended.status)
+        ⊎ ((script : Option (List ℕ)) × IsNextPassword input.old (first_line bytes) script × IsComplete (Comes input output script) (first_line bytes) c first Before After ended.status)
 
-    pub complete : Session trace faults G now (Comes input output) input output vault keeper ended → Outcome
+    pub complete : Session trace faults G (Comes input output) input output vault keeper ended → Outcome
     complete (inl u) = inl (unread trace faults G input output vault keeper ended bytes c first finds quiet u)
     complete (inr (password, script, has, inl ((error, u), unfailed, unwritten))) =
         let e = password_is input.old bytes password script finds.told has.is_next in
         inl (unopened trace faults G input output vault keeper ended bytes c first finds quiet error (subst (λ x. IsUnopened trace faults G x vault keeper ended error) e u) unwritten)
     complete (inr (password, script, has, inr s)) =
         let e = password_is input.old bytes password script finds.told has.is_next in
-        let t : IsServed trace faults G now (first_line bytes) (Comes input output script) vault keeper ended = subst (λ x. IsServed trace faults G now x (Comes input output script) vault keeper ended) e s in
+        let t : IsServed trace faults G (first_line bytes) (Comes input output script) vault keeper ended = subst (λ x. IsServed trace faults G x (Comes input output script) vault keeper ended) e s in
         inr (
           script,
           subst (λ x. IsNextPassword input.old x script) e has.is_next,

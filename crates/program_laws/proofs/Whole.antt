@@ -121,25 +121,25 @@ module _ {V : Type 0} {K : Type 0} (trace : V → Option (List Call)) (faults : 
 
 -- ---- a session
 
-module _ {V : Type 0} {K : Type 0} (trace : V → Option (List Call)) (faults : V → ℕ) (G : KeeperGhosts K) (complete : SessionsComplete trace faults G ComesShell) (now : Instant) (input output : Stream) (vault : V) (keeper : K) (ended : Ended V K)
-    (ran : Session trace faults G now (ComesShell input output) input output vault keeper ended) (calm : ended.status ≢ Violation) (bytes : List ℕ) (c : Settings) (first : Tree)
+module _ {V : Type 0} {K : Type 0} (trace : V → Option (List Call)) (faults : V → ℕ) (G : KeeperGhosts K) (now : Instant) (complete : SessionsComplete trace faults G (ComesShell now)) (input output : Stream) (vault : V) (keeper : K) (ended : Ended V K)
+    (ran : Session trace faults G (ComesShell now input output) input output vault keeper ended) (calm : ended.status ≢ Violation) (bytes : List ℕ) (c : Settings) (first : Tree)
     (finds : Finds input bytes c first (outside_of trace faults G vault keeper))
     (quiet : IsUnfailed output → IsUntroubled input output (outside_of trace faults G vault keeper) (outside_of trace faults G ended.vault ended.keeper)) where
   abbrev SessionEnd : Type 0
   SessionEnd = FindsNoMemory output (first_line bytes) c first (outside_of trace faults G ended.vault ended.keeper) ended.status
       ⊎ ((script : Option (List ℕ)) × IsNextPassword input.old (first_line bytes) script
-      × IsComplete now (ComesShell input output script) (first_line bytes) c first (outside_of trace faults G vault keeper) (outside_of trace faults G ended.vault ended.keeper) ended.status)
+      × IsComplete (ComesShell now input output script) (first_line bytes) c first (outside_of trace faults G vault keeper) (outside_of trace faults G ended.vault ended.keeper) ended.status)
 
   served_so : SessionEnd ⊎ (ended.status ≡ OutputFault)
   served_so = elim (session_output trace faults G input output vault keeper ended now calm ran) as (λ _. SessionEnd ⊎ (ended.status ≡ OutputFault)) [
-    | inl unfailed ↦ inl (complete now input output vault keeper ended bytes c first ran finds (quiet unfailed))
+    | inl unfailed ↦ inl (complete input output vault keeper ended bytes c first ran finds (quiet unfailed))
     | inr failed ↦ inr failed
   ]
 
   pub unserved : ended.status ≢ Done → IsWantOfMemory ended.status
   unserved other = elim served_so as (λ _. IsWantOfMemory ended.status) [
     | inl (inl none) ↦ inl none.ends
-    | inl (inr (script, next, served)) ↦ elim served.ends as (λ _. IsWantOfMemory ended.status) [ inl own ↦ absurd (other (own ∙ served.came.1)) | inr memory ↦ inl memory ]
+    | inl (inr (script, next, served)) ↦ elim served.ends as (λ _. IsWantOfMemory ended.status) [ inl own ↦ absurd (other (own ∙ served.came.1.1)) | inr memory ↦ inl memory ]
     | inr failed ↦ inr failed
   ]
 
@@ -148,14 +148,15 @@ module _ {V : Type 0} {K : Type 0} (trace : V → Option (List Call)) (faults : 
   transcript script state list root is told empty begins loaded knows less text written done = elim served_so as (λ _. IsTranscript now script text) [
     | inl (inl none) ↦ absurd (memory_done (sym none.ends ∙ done))
     | inl (inr (rest, next, served)) ↦
-        let asked = asked_lines script (first_line bytes) rest served.es (subst (λ x. IsNextPassword x (first_line bytes) rest) (told ∙ ap Some is) next) served.came.0.asked in
+        let asked = asked_lines script (first_line bytes) rest served.es (subst (λ x. IsNextPassword x (first_line bytes) rest) (told ∙ ap Some is) next) served.came.1.0.asked in
         record {
           es = served.es;
           trees = served.trees;
           asked = asked;
-          replies = subst (λ t. IsSession now t served.es served.trees) begins served.replies;
+          moments = served.came.0;
+          replies = subst (λ t. IsSession t served.es served.trees) begins served.replies;
           answered = answered script served.es (G.kept keeper) state list root loaded knows less asked served.unfailed served.spent;
-          said = same_Some _ _ (sym written ∙ (served.came.0.written ∙ ap (λ o. appends o (said_in served.es)) empty));
+          said = same_Some _ _ (sym written ∙ (served.came.1.0.written ∙ ap (λ o. appends o (said_in served.es)) empty));
         }
     | inr failed ↦ absurd (fault_done (sym failed ∙ done))
   ]

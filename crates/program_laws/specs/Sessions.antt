@@ -5,7 +5,6 @@ use Rattle.copy_file.specs.answers.Sessions.{Exchange, IsSession, IsKeptPoint, l
 use Rattle.copy_file.specs.answers.declared.answer.Answer.{Answer}
 use Rattle.copy_file.specs.answers.declared.answer.Answer.TheVariants.{Reply as Replied, Memory as NoMemory, Spent}
 use Rattle.session_laws.specs.config_file.Settings.{Settings}
-use Rattle.fs_model.specs.Instant.{Instant}
 use Rattle.fs_model.specs.Tree.{Tree}
 use Rattle.copy_file.specs.line_io.Lines.{first_line}
 use Rattle.copy_file.specs.line_io.Streams.{Stream, Untouched}
@@ -37,12 +36,12 @@ AreFaultless (e ∷ es) = IsFaultless e.answer × AreFaultless es
 
 -- All lines were answered from the first tree on, and the output is whole. The status is the session's own, or memory was refused. A tree is kept as no acknowledged sync
 -- forbids, and where memory wasn't refused the last one, with nothing left to be written.
-pub record IsComplete (now : Instant) (Came : End → Status → List Exchange → Type 0) (password : List ℕ) (c : Settings) (first : Tree) (before after : Outside) (status : Status) : Type 0 where
+pub record IsComplete (Came : End → Status → List Exchange → Type 0) (password : List ℕ) (c : Settings) (first : Tree) (before after : Outside) (status : Status) : Type 0 where
   pub es : List Exchange
   pub trees : List Tree
   pub own : Status
   pub came : Came Finished own es
-  pub replies : IsSession now first es trees
+  pub replies : IsSession first es trees
   pub unfailed : AreFaultless es
   pub spent : SpentSince before.kept es
   pub ends : (status ≡ own) ⊎ (status ≡ Memory)
@@ -60,9 +59,9 @@ pub record FindsNoMemory (output : Stream) (password : List ℕ) (c : Settings) 
 -- where nothing lies and nothing fails, a session is complete or finds no memory; what follows the password line came to it
 abbrev pub SessionsComplete : {V : Type 0} → {K : Type 0} → (V → Option (List Call)) → (V → ℕ) → KeeperGhosts K → (Stream → Stream → Option (List ℕ) → End → Status → List Exchange → Type 0) → Type 0
 SessionsComplete {V = V} {K = K} trace faults G Comes =
-    (now : Instant) (input output : Stream) (vault : V) (keeper : K) (ended : Ended V K) (bytes : List ℕ) (c : Settings) (first : Tree)
-    → Session trace faults G now (Comes input output) input output vault keeper ended
+    (input output : Stream) (vault : V) (keeper : K) (ended : Ended V K) (bytes : List ℕ) (c : Settings) (first : Tree)
+    → Session trace faults G (Comes input output) input output vault keeper ended
     → OfRun trace faults G vault keeper ended (λ before after. Finds input bytes c first before → IsUntroubled input output before after
     → FindsNoMemory output (first_line bytes) c first after ended.status
     ⊎ ((script : Option (List ℕ)) × IsNextPassword input.old (first_line bytes) script
-    × IsComplete now (Comes input output script) (first_line bytes) c first before after ended.status))
+    × IsComplete (Comes input output script) (first_line bytes) c first before after ended.status))

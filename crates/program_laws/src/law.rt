@@ -3,6 +3,7 @@ ghost use Rattle.std.specs.Prelude.{ℕ, List, Option};
 ghost use Rattle.copy_file.specs.copy_sessions.Coming.{ComesImport, ComesExport};
 ghost use Rattle.copy_file.specs.Coming.{ComesPut, ComesGet};
 ghost use Rattle.copy_file.specs.host_folder.Folders.{HostPath, HostTree};
+ghost use Rattle.fs_model.specs.Instant.{Instant};
 ghost use Rattle.shell_runs.specs.Sessions.{ComesShell, ComesGenerated, ComesCommand};
 ghost use Rattle.program_laws.specs.Checks.{CheckCompletes};
 ghost use Rattle.program_laws.specs.Migrations.{MigrateCompletes};
@@ -24,15 +25,15 @@ pub fn premises_are_met()
 /// opens the configuration answers every line as the plain tree does, and leaves its last tree; or it finds no memory. Of a copy
 /// this is said of what it asks, whatever folder it is beside.
 pub fn sessions_complete<V: Vault, K: Keeper>()
-    ensures shell { SessionsComplete V.trace V.faults K.Keeper ComesShell }
-    ensures generate { (count : ℕ) → SessionsComplete V.trace V.faults K.Keeper (ComesGenerated count) }
-    ensures command { (line : List ℕ) → SessionsComplete V.trace V.faults K.Keeper (ComesCommand line) }
-    ensures import { (folder : Option HostTree) (faults risen : ℕ) (target : HostPath)
-        → SessionsComplete V.trace V.faults K.Keeper (ComesImport folder faults risen target) }
-    ensures export { (before after : Option HostTree) (faults risen : ℕ) (source : HostPath)
-        → SessionsComplete V.trace V.faults K.Keeper (ComesExport before after faults risen source) }
-    ensures put { (path : HostPath) → SessionsComplete V.trace V.faults K.Keeper (ComesPut path) }
-    ensures get { (path : HostPath) → SessionsComplete V.trace V.faults K.Keeper (ComesGet path) }
+    ensures shell { (now : Instant) → SessionsComplete V.trace V.faults K.Keeper (ComesShell now) }
+    ensures generate { (now : Instant) (count : ℕ) → SessionsComplete V.trace V.faults K.Keeper (ComesGenerated now count) }
+    ensures command { (now : Instant) (line : List ℕ) → SessionsComplete V.trace V.faults K.Keeper (ComesCommand now line) }
+    ensures import { (now : Instant) (folder : Option HostTree) (faults risen : ℕ) (target : HostPath)
+        → SessionsComplete V.trace V.faults K.Keeper (ComesImport now folder faults risen target) }
+    ensures export { (now : Instant) (before after : Option HostTree) (faults risen : ℕ) (source : HostPath)
+        → SessionsComplete V.trace V.faults K.Keeper (ComesExport now before after faults risen source) }
+    ensures put { (now : Instant) (path : HostPath) → SessionsComplete V.trace V.faults K.Keeper (ComesPut now path) }
+    ensures get { (now : Instant) (path : HostPath) → SessionsComplete V.trace V.faults K.Keeper (ComesGet now path) }
 {}
 
 /// The same of the runs beside sessions: `info` tells the configuration, `passwd` changes the password, and `create`, where

@@ -45,7 +45,7 @@ use Rattle.program_run.proofs.One.{one, other}
 -- ---- one run, and any list of calls
 
 run_takes : (run : Run) → IsRun ShowsFiles run → TakesFrom 2 (before_of run).kept → TakesFrom 2 (after_of run).kept
-run_takes (session now password before after closing es) r = r.least 2
+run_takes (session password before after closing es) r = r.least 2
 run_takes (quiet password before after) r = r.least 2
 run_takes (examined password before after bad) r = r.least 2
 run_takes (migrated password before after bad) r = r.least

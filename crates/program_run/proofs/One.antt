@@ -96,16 +96,16 @@ module _ {V : Type 0} {K : Type 0} (trace : V → Option (List Call)) (faults : 
   unopened_ran asked password script next error u unwritten =
       quiet_ran asked password (next_first password script next) u.quiet (λ e. (unwritten, λ done. opening_is_no error h.ended.status Done u.status done (λ x. x)))
 
-  session_ran : (asked : Option Form) → Session trace faults G call.now (Comes call.words call.streams asked) call.streams.input call.streams.output h.vault h.keeper h.ended → Ran asked
+  session_ran : (asked : Option Form) → Session trace faults G (Comes call.words call.now call.streams asked) call.streams.input call.streams.output h.vault h.keeper h.ended → Ran asked
   session_ran asked (inl u) = unread_ran asked (PasswordUnread call.streams.input) (one_unread call.streams.input) u
   session_ran asked (inr (password, script, has, inl ((error, u), unfailed, unwritten))) = unopened_ran asked password script has.is_next error u unwritten
   session_ran asked (inr (password, script, has, inr s)) = record {
-    run = session call.now password Before After s.closing s.es;
+    run = session password Before After s.closing s.es;
     is_run = s.session;
     begins = refl;
     ends = refl;
     password = next_first password script has.is_next;
-    answered = (refl, script, has, s.end, s.own, s.came, h.status ∙ s.status);
+    answered = (script, has, s.end, s.own, s.came, h.status ∙ s.status);
   }
 
   checked_ran : RanCheck trace faults names G call.streams.input call.streams.output h.vault h.keeper h.ended → Ran (Some Check)

@@ -1,8 +1,8 @@
 -- What a run wrote, from what it did.
-use Rattle.std.proofs.Common.{◌≡◌, ◌++◌, ℕ, true, List, [], ◌∷◌, sym, ap, subst, ◌∙◌, append-nil, append_assoc, inl, inr}
+use Rattle.std.proofs.Common.{◌≡◌, ◌++◌, ℕ, true, List, [], ◌∷◌, refl, sym, ap, subst, ◌∙◌, append-nil, append_assoc, inl, inr}
 use Rattle.std.specs.declared.option.Option.{Option}
 use Rattle.std.specs.declared.option.Option.TheVariants.{None, Some}
-use Rattle.cryfs_shell.specs.answers.Sessions.{Exchange}
+use Rattle.cryfs_shell.specs.answers.Sessions.{Exchange, AllAt}
 use Rattle.cryfs_shell.specs.answers.Texts.{text_of_answer}
 use Rattle.cryfs_shell.specs.config_file.Settings.{Settings}
 use Rattle.cryfs_shell.specs.Doing.{Did}
@@ -58,27 +58,27 @@ module _ {V : Type 0} {K : Type 0} (trace : V → Option (List Call)) (faults : 
   abbrev Ran : RunCall
   Ran = program_call words now (streams_of input Output host chance left) before after status
 
-  shell_told : (script : Option (List ℕ)) (end : End) (own : Status) (es : List Exchange) → ComesShell input Output script end own es → Told old new es
-  shell_told script Finished own es (w, done) = whole old new es w.written
-  shell_told script InputFault own es (w, done) = whole old new es w.written
-  shell_told script OutputFault own es (w, done) = cut_last old new es w.written
+  shell_told : (script : Option (List ℕ)) (end : End) (own : Status) (es : List Exchange) → ComesShell now input Output script end own es → AllAt now es × Told old new es
+  shell_told script Finished own es came = (came.0, whole old new es came.1.0.written)
+  shell_told script InputFault own es came = (came.0, whole old new es came.1.0.written)
+  shell_told script OutputFault own es came = (came.0, cut_last old new es came.1.0.written)
 
-  command_told : (line : List ℕ) (script : Option (List ℕ)) (end : End) (own : Status) (es : List Exchange) → ComesCommand line input Output script end own es → Told old new es
-  command_told line script Finished own es (((answer, same, written), unfailed), done) = subst (Told old new) (sym same) (whole old new (single line answer) written.0)
+  command_told : (line : List ℕ) (script : Option (List ℕ)) (end : End) (own : Status) (es : List Exchange) → ComesCommand now line input Output script end own es → AllAt now es × Told old new es
+  command_told line script Finished own es (((answer, same, written), unfailed), done) = (subst (AllAt now) (sym same) (refl, tt), subst (Told old new) (sym same) (whole old new (single now line answer) written.0))
   command_told line script InputFault own es (((answer, same, written), unfailed), done) = absurd written
-  command_told line script OutputFault own es (((answer, same, written), unfailed), done) = subst (Told old new) (sym same) (part_of old new (text_of_answer answer) written.0)
+  command_told line script OutputFault own es (((answer, same, written), unfailed), done) = (subst (AllAt now) (sym same) (refl, tt), subst (Told old new) (sym same) (part_of old new (text_of_answer answer) written.0))
 
   module _ (vault : V) (keeper : K) (ended : Ended V K) (c : Settings) (first : Tree) (founded : (password : List ℕ) → IsFounded ShowsFiles password c first (outside_of trace faults G vault keeper) (outside_of trace faults G ended.vault ended.keeper)) where
     nothing : Untouched Output → WroteSession now first old new
-    nothing untouched = record { es = []; trees = []; replies = tt; cut = []; texts = ap (λ (xs : List ℕ). xs ++ []) (sym (ap bytes_in untouched.0)) }
+    nothing untouched = record { es = []; trees = []; moments = tt; replies = tt; cut = []; texts = ap (λ (xs : List ℕ). xs ++ []) (sym (ap bytes_in untouched.0)) }
 
-    served : (Came : End → Status → List Exchange → Type 0) → ((end : End) (own : Status) (es : List Exchange) → Came end own es → Told old new es) → (password : List ℕ) → IsServed trace faults G now password Came vault keeper ended → WroteSession now first old new
+    served : (Came : End → Status → List Exchange → Type 0) → ((end : End) (own : Status) (es : List Exchange) → Came end own es → AllAt now es × Told old new es) → (password : List ℕ) → IsServed trace faults G password Came vault keeper ended → WroteSession now first old new
     served Came tells password s =
         let answers = s.session.founded c first (founded password) in
         let texts = tells s.end s.own s.es s.came in
-        record { es = s.es; trees = answers.trees; replies = answers.replies; cut = texts.0; texts = texts.1 }
+        record { es = s.es; trees = answers.trees; moments = texts.0; replies = answers.replies; cut = texts.1.0; texts = texts.1.1 }
 
-    session : (Came : Option (List ℕ) → End → Status → List Exchange → Type 0) → ((script : Option (List ℕ)) (end : End) (own : Status) (es : List Exchange) → Came script end own es → Told old new es) → Session trace faults G now Came input Output vault keeper ended → WroteSession now first old new
+    session : (Came : Option (List ℕ) → End → Status → List Exchange → Type 0) → ((script : Option (List ℕ)) (end : End) (own : Status) (es : List Exchange) → Came script end own es → AllAt now es × Told old new es) → Session trace faults G Came input Output vault keeper ended → WroteSession now first old new
     session Came tells (inl u) = nothing u.unwritten
     session Came tells (inr (password, script, has, inl ((error, u), unfailed, unwritten))) = nothing unwritten
     session Came tells (inr (password, script, has, inr s)) = served (Came script) (tells script) password s
@@ -90,9 +90,9 @@ module _ {V : Type 0} {K : Type 0} (trace : V → Option (List Call)) (faults : 
     did (Some (Create options)) e d = absurd (cc)
     did (Some Info) e d = absurd (cc)
     did (Some Passwd) e d = absurd (cc)
-    did (Some Shell) e d = session (ComesShell input Output) shell_told d
+    did (Some Shell) e d = session (ComesShell now input Output) shell_told d
     did (Some (Generate count)) e d = absurd (cc)
-    did (Some Command) e d = session (ComesCommand (joined words) input Output) (command_told (joined words)) d
+    did (Some Command) e d = session (ComesCommand now (joined words) input Output) (command_told (joined words)) d
     did (Some (Import path)) e d = absurd (cc)
     did (Some (Export path)) e d = absurd (cc)
     did (Some (Put path)) e d = absurd (cc)

@@ -32,7 +32,7 @@ use Rattle.cryfs_shell.specs.Kinds.{opens, is_session, is_check, is_migration}
 use Rattle.program_run.specs.Calls.{RunCall, IsRunCall}
 
 abbrev pub password_of : Run → List ℕ
-password_of (session now password before after closing es) = password
+password_of (session password before after closing es) = password
 password_of (quiet password before after) = password
 password_of (examined password before after bad) = password
 password_of (migrated password before after bad) = password
@@ -40,9 +40,9 @@ password_of (migrated password before after bad) = password
 -- In a session the exchanges came so, and the status is theirs, or its own where nothing else is the matter. A check was judged so, and blocks that were written anew met so a violation or none. In a run of no lines the words ask for none of these, or nothing was
 -- written and the status isn't Done.
 abbrev pub CallAnswered : RunCall → Option Form → Run → Type 0
-CallAnswered call asked (session now password before after closing es) =
-    (now ≡ call.now) × (script : Option (List ℕ)) × HasPassword call.streams.input password script
-    × (end : End) × (own : Status) × Comes call.words call.streams asked script end own es × (call.status ≡ first_of (session_status (violated es) end closing) own)
+CallAnswered call asked (session password before after closing es) =
+    (script : Option (List ℕ)) × HasPassword call.streams.input password script
+    × (end : End) × (own : Status) × Comes call.words call.now call.streams asked script end own es × (call.status ≡ first_of (session_status (violated es) end closing) own)
 CallAnswered call asked (quiet password before after) = (is_session asked || is_check asked || is_migration asked) ≡ true → Untouched call.streams.output × (call.status ≢ Done)
 CallAnswered call asked (examined password before after bad) = (after : Option (List ℕ)) × HasPassword call.streams.input password after × Judges asked call.status bad
 CallAnswered call asked (migrated password before after bad) = (after : Option (List ℕ)) × HasPassword call.streams.input password after × Meets asked call.status bad

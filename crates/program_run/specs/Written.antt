@@ -2,7 +2,7 @@
 use Rattle.std.specs.Prelude.{◌≡◌, ℕ, Bool, true, false, List, ◌++◌}
 use Rattle.std.specs.declared.option.Option.{Option}
 use Rattle.std.specs.declared.option.Option.TheVariants.{Some}
-use Rattle.cryfs_shell.specs.answers.Sessions.{Exchange, IsSession}
+use Rattle.cryfs_shell.specs.answers.Sessions.{Exchange, AllAt, IsSession}
 use Rattle.cryfs_shell.specs.config_file.Settings.{Settings}
 use Rattle.fs_model.specs.Instant.{Instant}
 use Rattle.fs_model.specs.Tree.{Tree}
@@ -13,11 +13,12 @@ use Rattle.program_inputs.specs.program_words.declared.form.Form.TheVariants.{Sh
 use Rattle.program_inputs.specs.program_words.Forms.{form_of}
 use Rattle.cryfs_shell.specs.mount_core.Showing.{ShowsFiles}
 
--- what was written behind the old bytes are the texts of the answers of a session of the plain tree from this tree on; some of them may be cut off at the end
+-- what was written behind the old bytes are the texts of the answers of a session of the plain tree from this tree on, all at this moment; some of them may be cut off at the end
 pub record WroteSession (now : Instant) (first : Tree) (old new : List ℕ) : Type 0 where
   pub es : List Exchange
   pub trees : List Tree
-  pub replies : IsSession now first es trees
+  pub moments : AllAt now es
+  pub replies : IsSession first es trees
   pub cut : List ℕ
   pub texts : old ++ said_in es ≡ new ++ cut
 

@@ -39,7 +39,7 @@ returns-clause-want g c =
     let quiet : IsUnfailed output → IsUntroubled input output before after =
     λ unfailed. untroubled input output c.args.made.vault r.result.vault c.args.made.keeper r.result.keeper c.attest.ensures c.attest-3.ensures c.attest-2.ensures c.attest-4.ensures
     c.in-Ok-Ok.ensures'.honest.faultless c.attest-5.ensures.faultless less c.new-output.ensures.faultless unfailed in
-    unserved trace faults keeper_impl.ghosts c.sessions_complete.ensures.shell c.args.now input output c.args.made.vault c.args.made.keeper r.result ran calm bytes c.requires.c empty_tree finds quiet (c.is_done.ensures.no c.if-is_done.false)
+    unserved trace faults keeper_impl.ghosts c.args.now (c.sessions_complete.ensures.shell c.args.now) input output c.args.made.vault c.args.made.keeper r.result ran calm bytes c.requires.c empty_tree finds quiet (c.is_done.ensures.no c.if-is_done.false)
 
 pub returns-then-is_done-clause-transcript : goal.returns-then-is_done-clause-transcript
 returns-then-is_done-clause-transcript g c =
@@ -62,5 +62,5 @@ returns-then-is_done-clause-transcript g c =
     λ unfailed. untroubled input output c.args.made.vault r.result.vault c.args.made.keeper r.result.keeper c.attest.ensures c.attest-3.ensures c.attest-2.ensures c.attest-4.ensures
     c.in-Ok-Ok.ensures'.honest.faultless c.attest-5.ensures.faultless less c.new-output.ensures.faultless unfailed in
     let loaded = loaded_of c.args.made.keeper.kept (Some c.args.made.vault.trace) c.requires.c empty_tree c.requires.leaves.stands in
-    transcript trace faults keeper_impl.ghosts c.sessions_complete.ensures.shell c.args.now input output c.args.made.vault c.args.made.keeper r.result ran calm bytes c.requires.c empty_tree finds quiet c.args.script.now loaded.0 loaded.1 c.requires.root
+    transcript trace faults keeper_impl.ghosts c.args.now (c.sessions_complete.ensures.shell c.args.now) input output c.args.made.vault c.args.made.keeper r.result ran calm bytes c.requires.c empty_tree finds quiet c.args.script.now loaded.0 loaded.1 c.requires.root
     refl (ap Some c.in-Ok-Ok.ensures'.rest) (ap Some c.new-output.ensures.empty) refl loaded.2 c.requires.young (shorter c.in-Ok-Ok.input.rest c.args.script.now c.in-Ok-Ok.ensures'.rest c.in-Ok-Ok.ensures'.few) c.into_written.result.items (ap Some (sym c.into_written.ensures)) (c.is_done.ensures.yes c.if-is_done.true)
