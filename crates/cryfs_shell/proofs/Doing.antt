@@ -7,7 +7,6 @@ use Rattle.trial_runs.specs.answers.Sessions.{Exchange}
 use Rattle.fs_model.specs.Instant.{Instant}
 use Rattle.session_laws.specs.block_versions.Standing.{records}
 use Rattle.trial_runs.specs.line_io.Streams.{Stream}
-use Rattle.check_runs.specs.mount_stores.Drawing.{drawn}
 use Rattle.check_runs.specs.mount_core.Standing.{IsKeptMarked}
 use Rattle.outside.specs.Causes.{RoseBy}
 use Rattle.outside.specs.Trace.{Call}
@@ -97,7 +96,7 @@ module _ {V : Type 0} {K : Type 0} (trace : V → Option (List Call)) (faults : 
   pub doing_faults : (form : Form) → Doing form → Caused form → FaultsHappened input output (outside_of trace faults G vault keeper) (outside_of trace faults G ended.vault ended.keeper) ended.status
   doing_faults Trial d k = trial_faults trace faults G input output vault keeper ended d.1 (tried_end now input output ended.status d.0)
   doing_faults (TrialGenerate count) d k = trial_faults trace faults G input output vault keeper ended d.2 (generated_end now count input output ended.status d.0)
-  doing_faults (Create options) d k = created_faults trace faults G input output vault keeper ended k options.params options.block_size (drawn chance).0 d
+  doing_faults (Create options) d k = created_faults trace faults G input output vault keeper ended k options.params options.block_size chance left d
   doing_faults Info d k = told_faults trace faults G input output vault keeper ended k d
   doing_faults Passwd d k = changed_faults trace faults G input output vault keeper ended k chance left d
   doing_faults Migrate d k = migrated_faults trace faults G input output vault keeper ended d
@@ -131,7 +130,7 @@ module _ {V : Type 0} {K : Type 0} (trace : V → Option (List Call)) (faults : 
   pub doing_alarm : (form : Form) → Doing form → Caused form → NoFalseAlarm input (outside_of trace faults G vault keeper) (outside_of trace faults G ended.vault ended.keeper) ended.status
   doing_alarm Trial d k bytes c first f honest e = trial_is_no input output ended.status Violation (tried_end now input output ended.status d.0) e (λ h. h)
   doing_alarm (TrialGenerate count) d k bytes c first f honest e = trial_is_no input output ended.status Violation (generated_end now count input output ended.status d.0) e (λ h. h)
-  doing_alarm (Create options) d k bytes c first f honest e = created_alarm trace faults G input output vault keeper ended k options.params options.block_size (drawn chance).0 d e
+  doing_alarm (Create options) d k bytes c first f honest e = created_alarm trace faults G input output vault keeper ended k options.params options.block_size chance left d e
   doing_alarm Info d k bytes c first f honest e = told_alarm trace faults G input output vault keeper ended k d bytes c first f honest e
   doing_alarm Passwd d k bytes c first f honest e = changed_alarm trace faults G input output vault keeper ended k chance left d bytes c first f honest e
   doing_alarm Migrate d k bytes c first f honest e = migrated_alarm trace faults G input output vault keeper ended d bytes c first f honest e
@@ -182,7 +181,7 @@ module _ {V : Type 0} {K : Type 0} (trace : V → Option (List Call)) (faults : 
   pub doing_uncalled : (form : Form) → Doing form → Caused form → ended.status ≡ LongPassword → AreUncalled vault keeper ended
   doing_uncalled Trial d k e = d.1
   doing_uncalled (TrialGenerate count) d k e = d.2
-  doing_uncalled (Create options) d k e = created_uncalled trace faults G input output vault keeper ended k options.params options.block_size (drawn chance).0 d e
+  doing_uncalled (Create options) d k e = created_uncalled trace faults G input output vault keeper ended k options.params options.block_size chance left d e
   doing_uncalled Info d k e = told_uncalled trace faults G input output vault keeper ended k d e
   doing_uncalled Passwd d k e = changed_uncalled trace faults G input output vault keeper ended k chance left d e
   doing_uncalled Migrate d k e = migrated_uncalled trace faults G input output vault keeper ended d e
@@ -199,7 +198,7 @@ module _ {V : Type 0} {K : Type 0} (trace : V → Option (List Call)) (faults : 
   pub doing_usage : (form : Form) → Doing form → Caused form → ended.status ≢ Usage
   doing_usage Trial d k e = trial_is_no input output ended.status Usage (tried_end now input output ended.status d.0) e (λ h. h)
   doing_usage (TrialGenerate count) d k e = trial_is_no input output ended.status Usage (generated_end now count input output ended.status d.0) e (λ h. h)
-  doing_usage (Create options) d k e = created_usage trace faults G input output vault keeper ended k options.params options.block_size (drawn chance).0 d e
+  doing_usage (Create options) d k e = created_usage trace faults G input output vault keeper ended k options.params options.block_size chance left d e
   doing_usage Info d k e = told_usage trace faults G input output vault keeper ended k d e
   doing_usage Passwd d k e = changed_usage trace faults G input output vault keeper ended k chance left d e
   doing_usage Migrate d k e = migrated_usage trace faults G input output vault keeper ended d e
@@ -220,7 +219,7 @@ module _ {V : Type 0} {K : Type 0} (trace : V → Option (List Call)) (faults : 
   pub doing_host : (form : Form) → Doing form → Caused form → ended.status ≡ HostFault → Rose
   doing_host Trial d k e = absurd (trial_is_no input output ended.status HostFault (tried_end now input output ended.status d.0) e (λ h. h))
   doing_host (TrialGenerate count) d k e = absurd (trial_is_no input output ended.status HostFault (generated_end now count input output ended.status d.0) e (λ h. h))
-  doing_host (Create options) d k e = absurd (created_host trace faults G input output vault keeper ended k options.params options.block_size (drawn chance).0 d e)
+  doing_host (Create options) d k e = absurd (created_host trace faults G input output vault keeper ended k options.params options.block_size chance left d e)
   doing_host Info d k e = absurd (told_host trace faults G input output vault keeper ended k d e)
   doing_host Passwd d k e = absurd (changed_host trace faults G input output vault keeper ended k chance left d e)
   doing_host Migrate d k e = absurd (migrated_host trace faults G input output vault keeper ended d e)

@@ -32,8 +32,6 @@ use Rattle.check_runs.specs.setup_runs.Printing.{Printed}
 use Rattle.check_runs.proofs.setup_runs_lemmas.Ending.{ends}
 use Rattle.fs_model.specs.Instant.{Instant}
 use Rattle.trial_runs.specs.line_io.Streams.{Stream, Untouched}
-use Rattle.check_runs.specs.mount_stores.Drawing.{drawn}
-use Rattle.check_runs.specs.mount_stores.declared.draws.Draws.{Draws}
 use Rattle.check_runs.specs.mount_stores.declared.error.OpenError.{OpenError}
 use Rattle.check_runs.specs.mount_stores.declared.error.OpenError.TheVariants.{FaultDirectory, FaultState}
 use Rattle.outside.specs.Trace.{Call}
@@ -138,9 +136,9 @@ module _ {V : Type 0} {K : Type 0} (trace : V → Option (List Call)) (faults : 
   told_error : (made : Result BlockId OpenError) (error : OpenError) → CreateReports made output ended.status → made ≡ Err error → ended.status ≡ opening_status error
   told_error made error reports is = (subst (λ (m : Result BlockId OpenError). CreateReports m output ended.status) is reports).0
 
-  created_named : (form : Form) (cost : Cost) (block_size : ℕ) (draws : Draws) → RanCreate trace faults G cost block_size draws input output vault keeper ended → Named form
-  created_named form cost block_size draws (inl u) = idle_named form u.uncalled
-  created_named form cost block_size draws (inr (password, after, has, unfailed, c)) =
+  created_named : (form : Form) (cost : Cost) (block_size : ℕ) (stream rest : Chance) → RanCreate trace faults G cost block_size stream rest input output vault keeper ended → Named form
+  created_named form cost block_size stream rest (inl u) = idle_named form u.uncalled
+  created_named form cost block_size stream rest (inr (password, after, has, unfailed, c)) =
       each_named form (λ d. c.tells.vault_faults.quiet (λ e. d (told_error c.made FaultDirectory c.reports e))) (λ s. c.tells.keeper_faults.quiet (λ e. s (told_error c.made FaultState c.reports e)))
 
   told_named : Told trace faults G input output vault keeper ended → Named Info
@@ -286,9 +284,9 @@ module _ (input output : Stream) where
     unread_one : IsUnread (PasswordUnread input) output vault keeper ended → StreamsNamed
     unread_one u = record { input_quiet = λ i l v. one_quiet input ended.status u.cause i l; output_quiet = λ o v. u.unwritten.1 }
 
-    created_streams : (cost : Cost) (block_size : ℕ) (draws : Draws) → RanCreate trace faults G cost block_size draws input output vault keeper ended → StreamsNamed
-    created_streams cost block_size draws (inl u) = unread_one u
-    created_streams cost block_size draws (inr (password, after, has, unfailed, c)) = record { input_quiet = λ i l v. unfailed; output_quiet = λ o v. made_quiet output c.made ended.status c.reports o }
+    created_streams : (cost : Cost) (block_size : ℕ) (stream rest : Chance) → RanCreate trace faults G cost block_size stream rest input output vault keeper ended → StreamsNamed
+    created_streams cost block_size stream rest (inl u) = unread_one u
+    created_streams cost block_size stream rest (inr (password, after, has, unfailed, c)) = record { input_quiet = λ i l v. unfailed; output_quiet = λ o v. made_quiet output c.made ended.status c.reports o }
 
     told_streams : Told trace faults G input output vault keeper ended → StreamsNamed
     told_streams (inl u) = unread_one u
@@ -351,7 +349,7 @@ module _ {V : Type 0} {K : Type 0} (trace : V → Option (List Call)) (faults : 
   pub doing_named : (form : Form) → is_session (Some form) ≡ false → Doing form → FaultsNamed (Some form) (outside_of trace faults G vault keeper) (outside_of trace faults G ended.vault ended.keeper) ended.status
   doing_named Trial e d = idle_named trace faults G input output vault keeper ended Trial d.1
   doing_named (TrialGenerate count) e d = idle_named trace faults G input output vault keeper ended (TrialGenerate count) d.2
-  doing_named (Create options) e d = created_named trace faults G input output vault keeper ended (Create options) options.params options.block_size (drawn chance).0 d
+  doing_named (Create options) e d = created_named trace faults G input output vault keeper ended (Create options) options.params options.block_size chance left d
   doing_named Info e d = told_named trace faults G input output vault keeper ended d
   doing_named Migrate e d = migrated_named trace faults G input output vault keeper ended d
   doing_named Passwd e d = changed_named trace faults G input output vault keeper ended chance left d
@@ -368,7 +366,7 @@ module _ {V : Type 0} {K : Type 0} (trace : V → Option (List Call)) (faults : 
   pub doing_streams : (form : Form) → Doing form → StreamFaultsNamed input output ended.status
   doing_streams Trial d = tried_named input output now ended.status d.0
   doing_streams (TrialGenerate count) d = generated_named input output now count ended.status d.1 d.0
-  doing_streams (Create options) d = created_streams input output trace faults G vault keeper ended options.params options.block_size (drawn chance).0 d
+  doing_streams (Create options) d = created_streams input output trace faults G vault keeper ended options.params options.block_size chance left d
   doing_streams Info d = told_streams input output trace faults G vault keeper ended d
   doing_streams Migrate d = migrated_streams input output trace faults G vault keeper ended d
   doing_streams Passwd d = changed_streams input output trace faults G vault keeper ended chance left d

@@ -14,7 +14,6 @@ use Rattle.check_runs.specs.setup_runs.Printing.{Printed}
 use Rattle.check_runs.proofs.setup_runs_lemmas.Ending.{ends}
 use Rattle.session_laws.specs.block_versions.Standing.{records}
 use Rattle.trial_runs.specs.line_io.Streams.{Stream, HasFailed}
-use Rattle.check_runs.specs.mount_stores.declared.draws.Draws.{Draws}
 use Rattle.check_runs.specs.mount_stores.declared.error.OpenError.{OpenError}
 use Rattle.check_runs.specs.mount_stores.declared.error.OpenError.TheVariants as open_error
 use Rattle.check_runs.specs.mount_stores.Making.{CreateCause}
@@ -92,32 +91,32 @@ module _ {V : Type 0} {K : Type 0} (trace : V → Option (List Call)) (faults : 
 
   -- ---- create
 
-  module _ (cost : Cost) (block_size : ℕ) (draws : Draws) where
-    pub created_faults : RanCreate trace faults G cost block_size draws input output vault keeper ended → FaultsHappened input output (outside_of trace faults G vault keeper) (outside_of trace faults G ended.vault ended.keeper) ended.status
+  module _ (cost : Cost) (block_size : ℕ) (stream rest : Chance) where
+    pub created_faults : RanCreate trace faults G cost block_size stream rest input output vault keeper ended → FaultsHappened input output (outside_of trace faults G vault keeper) (outside_of trace faults G ended.vault ended.keeper) ended.status
     created_faults (inl u) = unread_faults trace faults G input output vault keeper ended (PasswordUnread input) (one_unread input) u
     created_faults (inr (password, after, has, unfailed, c)) = late_faults (made_late (G.kept keeper) (trace vault) (trace ended.vault) (faults vault) (faults ended.vault) (G.faults keeper) (G.faults ended.keeper) output c.made ended.status c.reports c.tells.cause)
 
-    created_status : (other : Status) → (IsLate other → ⊥) → RanCreate trace faults G cost block_size draws input output vault keeper ended → ended.status ≡ other → AreUncalled vault keeper ended
+    created_status : (other : Status) → (IsLate other → ⊥) → RanCreate trace faults G cost block_size stream rest input output vault keeper ended → ended.status ≡ other → AreUncalled vault keeper ended
     created_status other h (inl u) e = u.uncalled
     created_status other h (inr (password, after, has, unfailed, c)) e =
         absurd (late_is_no output ended.status other (made_late (G.kept keeper) (trace vault) (trace ended.vault) (faults vault) (faults ended.vault) (G.faults keeper) (G.faults ended.keeper) output c.made ended.status c.reports c.tells.cause) e h)
 
-    pub created_uncalled : RanCreate trace faults G cost block_size draws input output vault keeper ended → ended.status ≡ LongPassword → AreUncalled vault keeper ended
+    pub created_uncalled : RanCreate trace faults G cost block_size stream rest input output vault keeper ended → ended.status ≡ LongPassword → AreUncalled vault keeper ended
     created_uncalled c e = created_status LongPassword (λ h. h) c e
 
     -- neither where no password was read nor afterwards the status is this
-    created_is_no : (other : Status) → (IsUnreadStatus other → ⊥) → (IsLate other → ⊥) → RanCreate trace faults G cost block_size draws input output vault keeper ended → ended.status ≢ other
+    created_is_no : (other : Status) → (IsUnreadStatus other → ⊥) → (IsLate other → ⊥) → RanCreate trace faults G cost block_size stream rest input output vault keeper ended → ended.status ≢ other
     created_is_no other unread late (inl u) e = unread_is_no ended.status other (one_unread input ended.status u.cause).unread e unread
     created_is_no other unread late (inr (password, after, has, unfailed, c)) e =
         late_is_no output ended.status other (made_late (G.kept keeper) (trace vault) (trace ended.vault) (faults vault) (faults ended.vault) (G.faults keeper) (G.faults ended.keeper) output c.made ended.status c.reports c.tells.cause) e late
 
-    pub created_usage : RanCreate trace faults G cost block_size draws input output vault keeper ended → ended.status ≢ Usage
+    pub created_usage : RanCreate trace faults G cost block_size stream rest input output vault keeper ended → ended.status ≢ Usage
     created_usage = created_is_no Usage (λ h. h) (λ h. h)
 
-    pub created_alarm : RanCreate trace faults G cost block_size draws input output vault keeper ended → ended.status ≢ Violation
+    pub created_alarm : RanCreate trace faults G cost block_size stream rest input output vault keeper ended → ended.status ≢ Violation
     created_alarm = created_is_no Violation (λ h. h) (λ h. h)
 
-    pub created_host : RanCreate trace faults G cost block_size draws input output vault keeper ended → ended.status ≢ HostFault
+    pub created_host : RanCreate trace faults G cost block_size stream rest input output vault keeper ended → ended.status ≢ HostFault
     created_host = created_is_no HostFault (λ h. h) (λ h. h)
 
   -- ---- info

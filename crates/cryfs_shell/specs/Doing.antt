@@ -10,7 +10,6 @@ use Rattle.check_runs.specs.setup_runs.Migrate.{RanMigrate}
 use Rattle.check_runs.specs.setup_runs.Passwd.{RanPasswd}
 use Rattle.fs_model.specs.Instant.{Instant}
 use Rattle.trial_runs.specs.line_io.Streams.{Untouched}
-use Rattle.check_runs.specs.mount_stores.Drawing.{drawn}
 use Rattle.outside.specs.Trace.{Call}
 use Rattle.outside.specs.declared.keeper.Keeper.{Ghosts as KeeperGhosts}
 use Rattle.session_laws.specs.Openings.{AreUncalled, HasCauses}
@@ -33,7 +32,7 @@ abbrev pub Did : {V : Type 0} → {K : Type 0} → (V → Option (List Call)) �
 Did trace faults names G words now s vault keeper ended None = IsRefused words ended.status × Untouched s.input × Untouched s.output × AreUncalled vault keeper ended × (s.left ≡ s.chance)
 Did trace faults names G words now s vault keeper ended (Some Trial) = Tried now s.input s.output ended.status × AreUncalled vault keeper ended
 Did trace faults names G words now s vault keeper ended (Some (TrialGenerate count)) = GeneratedOnPlain now count s.output ended.status × Untouched s.input × AreUncalled vault keeper ended
-Did trace faults names G words now s vault keeper ended (Some (Create options)) = RanCreate trace faults G options.params options.block_size (drawn s.chance).0 s.input s.output vault keeper ended
+Did trace faults names G words now s vault keeper ended (Some (Create options)) = RanCreate trace faults G options.params options.block_size s.chance s.left s.input s.output vault keeper ended
 Did trace faults names G words now s vault keeper ended (Some Info) = Told trace faults G s.input s.output vault keeper ended
 Did trace faults names G words now s vault keeper ended (Some Passwd) = RanPasswd trace faults G s.chance s.left s.input s.output vault keeper ended
 Did trace faults names G words now s vault keeper ended (Some Migrate) = RanMigrate trace faults G s.input s.output vault keeper ended

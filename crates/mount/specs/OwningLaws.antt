@@ -4,7 +4,6 @@ use Rattle.std.proofs.Common.{refl, sym, ◌∙◌, ap, subst, inl, inr, append_
 use Rattle.std.specs.List.{AllByRecursion}
 use Rattle.std.specs.declared.option.Option.{Option}
 use Rattle.std.specs.declared.option.Option.TheVariants.{None, Some}
-use Rattle.outside.specs.Changes.{FileChanges}
 use Rattle.outside.specs.Trace.{Call, block, config, put, got, removed}
 use Rattle.store_api.specs.Durables.{Identity}
 use Rattle.mount.specs.Sealing.{View, PutsSealed, AddsSealed, AreSealed}
@@ -42,23 +41,23 @@ owns_then I a b c x y = record {
 
 -- ---- where nothing is sealed
 
-module _ (I : Identity) (list : FileChanges) (own : OwnWaits I list) where
-  puts_own : (call : Call) → PutsSealed [] list call → PutsOwn I call
+module _ (I : Identity) (before : View) (own : OwnWaits I before.list) where
+  puts_own : (call : Call) → PutsSealed [] before call → PutsOwn I call
   puts_own (put (block id) bytes ok) is = elim is as (λ _. IsOwnFile I id bytes) [ inl drawn ↦ absurd drawn | inr was ↦ own id bytes was ]
   puts_own (put config bytes ok) is = tt
   puts_own (got name max answer) is = tt
   puts_own (removed name ok) is = tt
 
-  each_own : (calls : List Call) → AllByRecursion (PutsSealed [] list) calls → AllByRecursion (PutsOwn I) calls
+  each_own : (calls : List Call) → AllByRecursion (PutsSealed [] before) calls → AllByRecursion (PutsOwn I) calls
   each_own [] all = tt
   each_own (call ∷ calls) all = (puts_own call all.0, each_own calls all.1)
 
-  adds_own_of : (old new : Option (List Call)) → AddsSealed [] list old new → AddsOwn I old new
+  adds_own_of : (old new : Option (List Call)) → AddsSealed [] before old new → AddsOwn I old new
   adds_own_of None new adds = adds
   adds_own_of (Some old) new adds = (adds.0, adds.1, each_own adds.0 adds.2)
 
 pub owns_sealed : (I : Identity) (a b : View) → AreSealed [] a b → KeepsOwn I a b
 owns_sealed I a b sealed = record {
-  waits = λ own id bytes is. elim (sealed.waits id bytes is) as (λ _. IsOwnFile I id bytes) [ inl drawn ↦ absurd drawn | inr was ↦ own id bytes was ];
-  adds = λ own. adds_own_of I a.list own a.calls b.calls sealed.adds;
+  waits = λ own id bytes is. elim (sealed.waits (block id) (Some bytes) is) as (λ _. IsOwnFile I id bytes) [ inl drawn ↦ absurd drawn | inr was ↦ own id bytes was ];
+  adds = λ own. adds_own_of I a own a.calls b.calls sealed.adds;
 }

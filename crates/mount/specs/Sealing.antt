@@ -1,17 +1,18 @@
--- Where each block's file comes from that waits for the directory or is put there: from before, or sealed since, with an IV that was drawn for it alone, and under an
--- id that was known before or comes of a seed that was drawn.
+-- Where each change comes from that waits for the directory or is made there: from before, or a file sealed since, with an IV that was drawn for it alone, and under an id that
+-- was known before or comes of a seed that was drawn; and which blocks are asked for and removed.
 use Rattle.std.specs.Prelude.{◌≡◌, ◌⊎◌, ℕ, true, List, [], ◌∷◌, ◌++◌}
 use Rattle.std.specs.List.{AllByRecursion}
 use Rattle.std.specs.declared.option.Option.{Option}
 use Rattle.std.specs.declared.option.Option.TheVariants.{None, Some}
 use Rattle.outside.specs.Changes.{FileChanges, change_at}
-use Rattle.outside.specs.Trace.{Call, block, config, put, got, removed}
+use Rattle.outside.specs.Trace.{At, Call, block, config, put, got, removed}
 use Rattle.rand_core.specs.Stream.{Stream, fill_bytes}
 use Rattle.mount_stores.specs.integrity_store.Draws.{iv_in}
 use Rattle.store_api.specs.Content.{Id}
 use Rattle.store_api.specs.Draws.{IsLater}
 use Rattle.store_api.specs.Holdings.{has_id}
 use Rattle.store_api.specs.Ids.{AreIdsOf, chacha20}
+use Rattle.store_api.specs.Lists.{with_config}
 use Rattle.mount_stores.specs.Identities.{KeepsRecord}
 use Rattle.mount_stores.specs.Opening.{IsLoaded}
 use Rattle.mount_stores.specs.Tower.{tower_durables, tower_holdings}
@@ -68,41 +69,48 @@ view_of trace mount = record { list = (tower_durables trace).list (store_of moun
 abbrev pub view_closed : Option (List Call) → View
 view_closed calls = record { list = []; calls = calls; known = [] }
 
--- these bytes were sealed under the id, or waited for the block
-abbrev pub IsSealedFor : List Draw → FileChanges → Id → List ℕ → Type 0
-IsSealedFor drawn list id bytes = IsDrawnFor drawn id bytes ⊎ (change_at (block id) list ≡ Some (Some bytes))
+-- the id was known before, or was drawn since
+abbrev pub IsNamed : List Draw → View → Id → Type 0
+IsNamed drawn before id = has_id (known_after before.known drawn) id ≡ true
 
--- this is a record, and each block's file that waits in it was sealed under the block's id, or waited for it before
-pub record HoldsSealed (drawn : List Draw) (list : FileChanges) (kept : Option (List ℕ)) : Type 0 where
+-- Where what waits for a name comes from: a block's file was sealed under the block's id, or waited; a removal is of an id that was known or drawn, or waited; and the
+-- configuration's file waited.
+abbrev pub ComesFrom : List Draw → View → At → Option (List ℕ) → Type 0
+ComesFrom drawn before (block id) (Some bytes) = IsDrawnFor drawn id bytes ⊎ (change_at (block id) before.list ≡ Some (Some bytes))
+ComesFrom drawn before (block id) None = IsNamed drawn before id ⊎ (change_at (block id) before.list ≡ Some None)
+ComesFrom drawn before config change = change_at config before.list ≡ Some change
+
+-- this is a record, and what waits in it comes so
+pub record HoldsSealed (drawn : List Draw) (before : View) (kept : Option (List ℕ)) : Type 0 where
   pub state : PlainState
   pub waiting : FileChanges
   pub keeps : KeepsRecord kept state waiting
-  pub sealed : (id : Id) (bytes : List ℕ) → change_at (block id) waiting ≡ Some (Some bytes) → IsSealedFor drawn list id bytes
+  pub sealed : (name : At) (change : Option (List ℕ)) → change_at name waiting ≡ Some change → ComesFrom drawn before name change
 
--- so, where the call puts something under a block's name
-abbrev pub PutsSealed : List Draw → FileChanges → Call → Type 0
-PutsSealed drawn list (put (block id) bytes ok) = IsSealedFor drawn list id bytes
-PutsSealed drawn list (put config bytes ok) = Unit {0}
-PutsSealed drawn list (got name max answer) = Unit {0}
-PutsSealed drawn list (removed name ok) = Unit {0}
+-- so does what the call puts or removes, and the block that it asks for was known or drawn
+abbrev pub PutsSealed : List Draw → View → Call → Type 0
+PutsSealed drawn before (put name bytes ok) = ComesFrom drawn before name (Some bytes)
+PutsSealed drawn before (removed name ok) = ComesFrom drawn before name None
+PutsSealed drawn before (got (block id) max answer) = IsNamed drawn before id
+PutsSealed drawn before (got config max answer) = Unit {0}
 
 -- so each call that was added, where calls are told; what isn't told stays so
-abbrev pub AddsSealed : List Draw → FileChanges → Option (List Call) → Option (List Call) → Type 0
-AddsSealed drawn list None new = new ≡ None
-AddsSealed drawn list (Some old) new = (calls : List Call) × (new ≡ Some (calls ++ old)) × AllByRecursion (PutsSealed drawn list) calls
+abbrev pub AddsSealed : List Draw → View → Option (List Call) → Option (List Call) → Type 0
+AddsSealed drawn before None new = new ≡ None
+AddsSealed drawn before (Some old) new = (calls : List Call) × (new ≡ Some (calls ++ old)) × AllByRecursion (PutsSealed drawn before) calls
 
--- each block's file that waits afterwards, or was put since, was sealed under the block's id, or waited for it before
+-- what waits afterwards, or was put or removed since, comes so; each block that was asked for was known or drawn; and so is each id that is known afterwards
 pub record AreSealed (drawn : List Draw) (before after : View) : Type 0 where
-  pub waits : (id : Id) (bytes : List ℕ) → change_at (block id) after.list ≡ Some (Some bytes) → IsSealedFor drawn before.list id bytes
-  pub adds : AddsSealed drawn before.list before.calls after.calls
+  pub waits : (name : At) (change : Option (List ℕ)) → change_at name after.list ≡ Some change → ComesFrom drawn before name change
+  pub adds : AddsSealed drawn before before.calls after.calls
+  pub known : (id : Id) → has_id after.known id ≡ true → IsNamed drawn before id
 
 -- Each block's file that waits afterwards, or was put since, waited before, or was sealed since: with a fill of this stream that served nothing else, and under an id that
--- was known before, or that comes of such a fill. So does each id that is known afterwards.
+-- was known before, or that comes of such a fill. So does each id that is known afterwards, and that was asked for or removed.
 pub record SealsFresh (stream left : Stream) (before after : View) : Type 0 where
   pub drawn : List Draw
   pub draws : AreDraws before.known drawn stream left
   pub sealed : AreSealed drawn before after
-  pub known : (id : Id) → has_id after.known id ≡ true → has_id (known_after before.known drawn) id ≡ true
 
 -- the same, and no seed was drawn: each file that was sealed is under an id that was known before
 pub record SealsKnown (stream left : Stream) (before after : View) : Type 0 where
@@ -115,6 +123,31 @@ pub record SealsKnown (stream left : Stream) (before after : View) : Type 0 wher
 abbrev pub IsKeptList : Option (List ℕ) → FileChanges → Type 0
 IsKeptList kept list = (list ≡ []) ⊎ ((state : PlainState) × IsLoaded kept state list)
 
--- nothing was sealed: what was put is of the list that was kept
+-- nothing was sealed: what was put or removed is of the list that was kept, and no block was asked for but what is known then
 abbrev pub OpensSealed : Option (List ℕ) → Option (List Call) → View → Type 0
-OpensSealed kept calls after = (list : FileChanges) × IsKeptList kept list × AreSealed [] (record { list = list; calls = calls; known = [] }) after
+OpensSealed kept calls after = (list : FileChanges) × IsKeptList kept list × AreSealed [] (record { list = list; calls = calls; known = after.known }) after
+
+-- ---- where the configuration's file is replaced
+
+-- these bytes wait for it
+abbrev pub view_replaced : List ℕ → View → View
+view_replaced bytes view = record view { list = with_config bytes view.list }
+
+-- ---- where a file system is made
+
+-- its configuration's file waits, and its root's id is known
+abbrev pub view_made : List ℕ → Id → Option (List Call) → View
+view_made bytes root calls = record { list = with_config bytes []; calls = calls; known = root ∷ [] }
+
+-- nothing was sealed, or one file under the root's id, whose IV are the next 16 bytes of the stream; and nothing else was drawn
+abbrev pub IsRootDraw : Id → List Draw → Stream → Stream → Type 0
+IsRootDraw root [] stream left = Unit {0}
+IsRootDraw root (seed ids ∷ draws) stream left = ⊥
+IsRootDraw root (vector id file ∷ draws) stream left = (id ≡ root) × (iv_in file ≡ (fill_bytes 16 stream).0) × (left ≡ (fill_bytes 16 stream).1) × (draws ≡ [])
+
+-- What was put since, and what waits in what is kept then, is this configuration's file or that block's; no other block's file was put, removed or asked for.
+pub record SealsRoot (bytes : List ℕ) (root : Id) (stream left : Stream) (calls new_calls : Option (List Call)) (was now : Option (List ℕ)) : Type 0 where
+  pub drawn : List Draw
+  pub draws : IsRootDraw root drawn stream left
+  pub sealed : AreSealed drawn (view_made bytes root calls) (view_closed new_calls)
+  pub kept : (now ≡ was) ⊎ HoldsSealed drawn (view_made bytes root calls) now

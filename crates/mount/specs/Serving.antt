@@ -26,7 +26,7 @@ use Rattle.mount_stores.specs.Tower.{vault_in, tower_holdings, tower_durables}
 use Rattle.mount.specs.declared.mount.Mount.{Mount}
 use Rattle.mount.specs.Answering.{store_of, calls_of, forgeries_of, lies_of, vault_faults, keeper_faults, version_of, kept_of}
 use Rattle.mount.specs.Mounts.{IsReady, MountClosed}
-use Rattle.mount.specs.Sealing.{AreSealed, view_of, view_closed}
+use Rattle.mount.specs.Sealing.{AreSealed, view_of, view_closed, view_replaced}
 use Rattle.mount.specs.Tower.{tower, TowerStands, TowerConfigures}
 
 -- a call that syncs, whatever it answers
@@ -59,6 +59,8 @@ pub record ChangesPassword {V : Type 0} {K : Type 0} (shows : Showing) (trace : 
   pub ok : OnOk result (new.core.saver.changed ≡ false)
   -- also after an error, what was kept before or one of this mount's two records with that file waiting
   pub keeps : ReplaceKeeps (tower trace faults G) (store_of old) file old.core.saver new.core.saver
+  -- no block's file is sealed: what waits afterwards, and what was put or removed since, waited before, but for that file
+  pub sealed : AreSealed [] (view_of trace old) (view_of trace new) ⊎ AreSealed [] (view_replaced file (view_of trace old)) (view_of trace new)
 
 -- what a closing leaves of its directory and its keeper
 pub record MountLeaves {V : Type 0} {K : Type 0} (trace : V → Option (List Call)) (faults : V → ℕ) (G : KeeperGhosts K) (mount : Mount V K) (closing : Result Unit SyncError) (vault : V) (keeper : K) : Type 0 where

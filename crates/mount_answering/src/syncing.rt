@@ -5,6 +5,7 @@ ghost use Rattle.mount_core.specs.store_api.Lists.{MayConfigure};
 ghost use Rattle.mount_core.specs.path_layer.Showing.{ShowsFiles};
 ghost use Rattle.mount_core.specs.Answering.{CoreMoves, CoreSyncs, MakesRoom, CoreReplaces, CoreCloses};
 ghost use Rattle.mount_core.specs.Standing.{Ready};
+ghost use Rattle.mount_answering.specs.Replacing.{ReplaceWrites};
 
 use crate::kinds::is_sync;
 use block_id::Memory;
@@ -62,6 +63,8 @@ pub fn replace_config<S: Durable, K: Keeper>(
     ensures moves { CoreMoves (world S.meanings S.holdings S.durables S.records K.Keeper) core.old core.new result }
     ensures replaces { CoreReplaces ShowsFiles (world S.meanings S.holdings S.durables S.records K.Keeper)
         core.old bytes.items core.new result }
+    ensures writes { ReplaceWrites (world S.meanings S.holdings S.durables S.records K.Keeper)
+        core.old.blobs.tx.store bytes.items core.new.blobs.tx.store }
 {
     match core.blobs.tx.store.put_config(alloc, bytes) {
         Ok(()) => {}

@@ -8,8 +8,8 @@ use Rattle.mount.specs.block_versions.Standing.{listed}
 use Rattle.mount.specs.integrity_store.WaitingLaws.{in_order}
 use Rattle.mount_opening.specs.local_state.Record.{with_mark as mark_set}
 use Rattle.mount.specs.declared.mount.Mount.{Mount}
-use Rattle.mount.specs.Sealing.{Draw, HoldsSealed, View, AreSealed, IsSealedFor, SealsKnown}
-use Rattle.mount.specs.SealingLaws.{holds_marked, holds_more, holds_then, known_none, known_nothing, known_then, sealed_nothing}
+use Rattle.mount.specs.Sealing.{Draw, HoldsSealed, View, ComesFrom, AreSealed, SealsKnown}
+use Rattle.mount.specs.SealingLaws.{comes_first, comes_waiting, holds_marked, holds_more, holds_then, known_none, known_nothing, known_then, sealed_nothing}
 use Rattle.mount.specs.Tower.{tower}
 use Rattle.mount.proofs.Sealing.{step_seals, tower_applied, tower_drawn}
 use Rattle.mount_opening.specs.mount_core.declared.body.Core.{Core}
@@ -18,20 +18,19 @@ use Rattle.mount_opening.specs.mount_core.Keeping.{IsSameOrRecord}
 use Rattle.mount_migrating.specs.Drawing.{DrawsAnew, DrawsMarked, DrawsSteps, Reached, StepDraws}
 use Rattle.mount.specs.mount_stores.Tower.{Cached, held_in, trace_in, tower_meanings, tower_holdings, tower_durables}
 use Rattle.outside.specs.Changes.{FileChanges, IsIncreasing, change_at}
-use Rattle.outside.specs.Trace.{Call, block}
+use Rattle.outside.specs.Trace.{At, Call}
 use Rattle.outside.specs.declared.keeper.Keeper.{Ghosts as KeeperGhosts}
 use Rattle.rand_core.specs.Stream.{Stream}
 use Rattle.mount_opening.specs.record_saver.declared.saver.Saver.{Saver}
 use Rattle.mount_opening.proofs.store_api_lemmas.Draws.{later_same}
 use Rattle.mount_opening.specs.store_api.Durables.{with_mark}
-use Rattle.mount_opening.specs.store_api.Holdings.{has_id}
 use Rattle.mount_calls.specs.Sealing.{StaysOrSealed, SealsAnew}
 
 -- ---- records
 
-stays_then : (x y : List Draw) (a b : View) (first mid last : Option (List ℕ)) → AreSealed x a b → StaysOrSealed x a.list first mid → StaysOrSealed y b.list mid last → StaysOrSealed (x ++ y) a.list first last
+stays_then : (x y : List Draw) (a b : View) (first mid last : Option (List ℕ)) → AreSealed x a b → StaysOrSealed x a first mid → StaysOrSealed y b mid last → StaysOrSealed (x ++ y) a first last
 stays_then x y a b first mid last sealed (inl same) (inl next) = inl (next ∙ same)
-stays_then x y a b first mid last sealed (inr h) (inl next) = inr (subst (HoldsSealed (x ++ y) a.list) (sym next) (holds_more x y a.list mid h))
+stays_then x y a b first mid last sealed (inr h) (inl next) = inr (subst (HoldsSealed (x ++ y) a) (sym next) (holds_more x y a mid h))
 stays_then x y a b first mid last sealed is (inr h) = inr (holds_then x y a b last sealed h)
 
 module _ {V : Type 0} {K : Type 0} (trace : V → Option (List Call)) (faults : V → ℕ) (G : KeeperGhosts K) where
@@ -41,27 +40,27 @@ module _ {V : Type 0} {K : Type 0} (trace : V → Option (List Call)) (faults : 
   abbrev Body : Type 0
   Body = Core (Cached V) K
 
-  listed_sealed : (drawn : List Draw) (list : FileChanges) (short : Cached V) → (held_in short).list ≡ list → (with_list : Bool) (id bytes : List ℕ) → change_at (block id) (listed with_list (held_in short).list) ≡ Some (Some bytes)
-      → IsSealedFor drawn list id bytes
-  listed_sealed drawn list short same true id bytes is = inr (subst (λ (l : FileChanges). change_at (block id) l ≡ Some (Some bytes)) same is)
-  listed_sealed drawn list short same false id bytes is = absurd (cc)
+  module _ (drawn : List Draw) (before : View) (short : Cached V) (same : (held_in short).list ≡ before.list) where
+    listed_sealed : (with_list : Bool) (name : At) (change : Option (List ℕ)) → change_at name (listed with_list (held_in short).list) ≡ Some change → ComesFrom drawn before name change
+    listed_sealed true name change is = comes_first [] drawn before name change (comes_waiting before name change (subst (λ (l : FileChanges). change_at name l ≡ Some change) same is))
+    listed_sealed false name change is = absurd (cc)
 
-  -- a record of a store with this list, or what it was
-  stays_of : (drawn : List Draw) (list : FileChanges) (short : Cached V) (old new : Option (List ℕ)) → (held_in short).list ≡ list → IsSameOrRecord (tower_durables trace) short old new → StaysOrSealed drawn list old new
-  stays_of drawn list short old new same (inl is) = inl is
-  stays_of drawn list short old new same (inr (bytes, with_list, is, is_record)) = inr (record {
-    state = (held_in short).state;
-    waiting = listed with_list (held_in short).list;
-    keeps = record { bytes = bytes; kept = is; is_record = is_record };
-    sealed = listed_sealed drawn list short same with_list;
-  })
+    -- a record of a store with this list, or what it was
+    stays_of : (old new : Option (List ℕ)) → IsSameOrRecord (tower_durables trace) short old new → StaysOrSealed drawn before old new
+    stays_of old new (inl is) = inl is
+    stays_of old new (inr (bytes, with_list, is, is_record)) = inr (record {
+      state = (held_in short).state;
+      waiting = listed with_list (held_in short).list;
+      keeps = record { bytes = bytes; kept = is; is_record = is_record };
+      sealed = listed_sealed with_list;
+    })
 
   -- ---- steps
 
   record SoFar (stream now : Stream) (a b : Body) : Type 0 where
     seals : SealsKnown stream now (view_at (store_of a)) (view_at (store_of b))
-    kept : StaysOrSealed seals.fresh.drawn (view_at (store_of a)).list (G.kept a.saver.keeper) (G.kept b.saver.keeper)
-    last : StaysOrSealed seals.fresh.drawn (view_at (store_of a)).list (Some a.saver.last.items) (Some b.saver.last.items)
+    kept : StaysOrSealed seals.fresh.drawn (view_at (store_of a)) (G.kept a.saver.keeper) (G.kept b.saver.keeper)
+    last : StaysOrSealed seals.fresh.drawn (view_at (store_of a)) (Some a.saver.last.items) (Some b.saver.last.items)
 
   so_far_then : (s t u : Stream) (a b c : Body) → SoFar s t a b → SoFar t u b c → SoFar s u a c
   so_far_then s t u a b c x y =
@@ -83,8 +82,8 @@ module _ {V : Type 0} {K : Type 0} (trace : V → Option (List Call)) (faults : 
       let seals = step_seals trace faults (store_of a) step.synced (store_of b) stream left (rises (store_of a) intact) step.wrote step.used step.once in
       record {
         seals = seals;
-        kept = stays_of seals.fresh.drawn (view_at (store_of a)).list (store_of a) (G.kept a.saver.keeper) (G.kept b.saver.keeper) refl step.keeps.kept;
-        last = stays_of seals.fresh.drawn (view_at (store_of a)).list (store_of a) (Some a.saver.last.items) (Some b.saver.last.items) refl step.keeps.last;
+        kept = stays_of seals.fresh.drawn (view_at (store_of a)) (store_of a) refl (G.kept a.saver.keeper) (G.kept b.saver.keeper) step.keeps.kept;
+        last = stays_of seals.fresh.drawn (view_at (store_of a)) (store_of a) refl (Some a.saver.last.items) (Some b.saver.last.items) step.keeps.last;
       }
 
   each_step : (mids : List (Reached (Cached V) K)) (a b : Body) (stream left : Stream) → (tower_meanings trace faults).intact (store_of a)
@@ -98,27 +97,27 @@ module _ {V : Type 0} {K : Type 0} (trace : V → Option (List Call)) (faults : 
       let ve = view_at (store_of d.end) in
       let vb = view_at (store_of b) in
       let same : vb ≡ ve = λ i. record { list = d.set.list i; calls = d.set.trace i; known = d.set.stays.used i } in
-      let seals = known_none left left ve vb (later_same left) (subst (AreSealed [] ve) (sym same) (sealed_nothing ve)) (λ id has. subst (λ (v : View). has_id v.known id ≡ true) same has) in
+      let seals = known_none left left ve vb (later_same left) (subst (AreSealed [] ve) (sym same) (sealed_nothing ve)) in
       so_far_then stream left left a d.end b (each_step d.along.0 a d.end stream left intact d.along.1)
       (record {
         seals = seals;
-        kept = stays_of seals.fresh.drawn ve.list d.short (G.kept d.end.saver.keeper) (G.kept b.saver.keeper) d.set_short.list d.keeps.kept;
-        last = stays_of seals.fresh.drawn ve.list d.short (Some d.end.saver.last.items) (Some b.saver.last.items) d.set_short.list d.keeps.last;
+        kept = stays_of seals.fresh.drawn ve d.short d.set_short.list (G.kept d.end.saver.keeper) (G.kept b.saver.keeper) d.keeps.kept;
+        last = stays_of seals.fresh.drawn ve d.short d.set_short.list (Some d.end.saver.last.items) (Some b.saver.last.items) d.keeps.last;
       })
 
   -- ---- of a mount
 
-  marked_by : (drawn : List Draw) (list : FileChanges) (old was : List ℕ) (first kept : Option (List ℕ)) → kept ≡ Some (with_mark was) → StaysOrSealed drawn list (Some old) (Some was)
-      → (kept ≡ Some (with_mark old)) ⊎ StaysOrSealed drawn list first kept
-  marked_by drawn list old was first kept is (inl same) = inl (let e : was ≡ old = cc in is ∙ ap (λ x. Some (with_mark x)) e)
-  marked_by drawn list old was first kept is (inr h) = inr (inr (subst (HoldsSealed drawn list) (sym is) (holds_marked drawn list was h)))
+  marked_by : (drawn : List Draw) (before : View) (old was : List ℕ) (first kept : Option (List ℕ)) → kept ≡ Some (with_mark was) → StaysOrSealed drawn before (Some old) (Some was)
+      → (kept ≡ Some (with_mark old)) ⊎ StaysOrSealed drawn before first kept
+  marked_by drawn before old was first kept is (inl same) = inl (let e : was ≡ old = cc in is ∙ ap (λ x. Some (with_mark x)) e)
+  marked_by drawn before old was first kept is (inr h) = inr (inr (subst (HoldsSealed drawn before) (sym is) (holds_marked drawn before was h)))
 
   pub seals_anew : (old new : Mount V K) (answer : Answer) (stream left : Stream) → (tower_meanings trace faults).intact (store_of old.core)
       → DrawsMarked (tower trace faults G) (tower_applied trace faults) (tower_drawn trace faults) old.core answer new.core stream left → SealsAnew trace G stream left old answer new
   seals_anew old new answer stream left intact d =
       let x = to_end old.core d.before stream left intact d.anew in
       let drawn = x.seals.fresh.drawn in
-      let list = (view_at (store_of old.core)).list in
+      let view = view_at (store_of old.core) in
       let first = G.kept old.core.saver.keeper in
       let now = G.kept new.core.saver.keeper in
       let same : view_at (store_of d.before) ≡ view_at (store_of new.core) = ap view_at (sym d.same_store) in
@@ -128,20 +127,19 @@ module _ {V : Type 0} {K : Type 0} (trace : V → Option (List Call)) (faults : 
           drawn = drawn;
           draws = x.seals.fresh.draws;
           sealed = subst (AreSealed drawn (view_at (store_of old.core))) same x.seals.fresh.sealed;
-          known = λ id has. x.seals.fresh.known id (subst (λ (v : View). has_id v.known id ≡ true) (sym same) has);
         };
         unnamed = x.seals.unnamed;
       } in
       record {
         seals = seals;
-        kept = elim (is_violation answer) as (λ b. is_violation answer ≡ b → (now ≡ Some (with_mark old.core.saver.last.items)) ⊎ StaysOrSealed drawn list first now) [
-          | true ↦ λ e. elim (d.marks e) as (λ _. (now ≡ Some (with_mark old.core.saver.last.items)) ⊎ StaysOrSealed drawn list first now) [
-            | inl marked ↦ marked_by drawn list old.core.saver.last.items d.before.saver.last.items first now marked x.last
-            | inr same_kept ↦ inr (subst (StaysOrSealed drawn list first) (sym same_kept) x.kept)
+        kept = elim (is_violation answer) as (λ b. is_violation answer ≡ b → (now ≡ Some (with_mark old.core.saver.last.items)) ⊎ StaysOrSealed drawn view first now) [
+          | true ↦ λ e. elim (d.marks e) as (λ _. (now ≡ Some (with_mark old.core.saver.last.items)) ⊎ StaysOrSealed drawn view first now) [
+            | inl marked ↦ marked_by drawn view old.core.saver.last.items d.before.saver.last.items first now marked x.last
+            | inr same_kept ↦ inr (subst (StaysOrSealed drawn view first) (sym same_kept) x.kept)
           ]
-          | false ↦ λ e. inr (subst (λ (s : Saver K). StaysOrSealed drawn list first (G.kept s.keeper)) (sym (d.calm e)) x.kept)
+          | false ↦ λ e. inr (subst (λ (s : Saver K). StaysOrSealed drawn view first (G.kept s.keeper)) (sym (d.calm e)) x.kept)
         ] refl;
-        last = λ e. subst (λ (s : Saver K). StaysOrSealed drawn list (Some old.core.saver.last.items) (Some s.last.items)) (sym (d.calm e)) x.last;
+        last = λ e. subst (λ (s : Saver K). StaysOrSealed drawn view (Some old.core.saver.last.items) (Some s.last.items)) (sym (d.calm e)) x.last;
       }
 
   -- nothing was done

@@ -1,5 +1,5 @@
 -- A new file system's configuration and store, and why none is made.
-use Rattle.std.specs.Prelude.{◌≡◌, ◌⊎◌, ℕ, true, false, List, is_some, if◌then◌else◌}
+use Rattle.std.specs.Prelude.{◌≡◌, ◌⊎◌, ℕ, true, false, List, [], is_some, if◌then◌else◌}
 use Rattle.std.specs.Str.{bytes_eq}
 use Rattle.std.specs.declared.option.Option.{Option}
 use Rattle.std.specs.declared.option.Option.TheVariants.{None, Some}
@@ -47,6 +47,7 @@ CreateCause kept t0 t1 v0 v1 k0 k1 error = ⊥
 pub record IsNewStore {V : Type 0} (was : Option (List Call)) (failed : ℕ) (trace : V → Option (List Call)) (faults : V → ℕ) (c : Settings) (salt : List ℕ) (store : IntegrityStore V Cipher) : Type 0 where
   pub intact : (sealed_meanings trace faults).intact store
   pub same : sealed_trace trace store ≡ was
+  pub list : (sealed_durables trace).list store ≡ []
   pub few : (sealed_meanings trace faults).faults store ≡ failed
   pub unused : (id : Id) → has_id ((sealed_holdings trace).used store) id ≡ false
   pub none : (id : Id) → (sealed_holdings trace).content store id ≡ None

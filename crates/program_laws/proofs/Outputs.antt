@@ -9,7 +9,8 @@ use Rattle.cryfs_shell.specs.config_file.declared.error.ConfigError.TheVariants 
 use Rattle.cryfs_shell.specs.setup_runs.Create.{RanCreate}
 use Rattle.fs_model.specs.Instant.{Instant}
 use Rattle.cryfs_shell.specs.line_io.Streams.{Stream}
-use Rattle.cryfs_shell.specs.mount_stores.declared.draws.Draws.{Draws}
+use Rattle.cryfs_shell.specs.mount_stores.Drawing.{drawn}
+use Rattle.rand_core.specs.Stream.{Stream as Chance}
 use Rattle.cryfs_shell.specs.mount.Making.{KnowsOnly}
 use Rattle.cryfs_shell.specs.mount_stores.Making.{root_of}
 use Rattle.cryfs_shell.specs.mount_stores.declared.error.OpenError.{OpenError}
@@ -42,9 +43,9 @@ reported (Ok id) output ended r = printed output (created_text id.0) ended r
 reported (Err error) output ended r = inl r.1.1
 
 module _ {V : Type 0} {K : Type 0} (trace : V → Option (List Call)) (faults : V → ℕ) (G : KeeperGhosts K) (input output : Stream) (vault : V) (keeper : K) (ended : Ended V K) where
-  pub create_output : (cost : Cost) (block_size : ℕ) (draws : Draws) → RanCreate trace faults G cost block_size draws input output vault keeper ended → IsUnfailed output ⊎ (ended.status ≡ status.OutputFault)
-  create_output cost block_size draws (inl u) = inl u.unwritten.1
-  create_output cost block_size draws (inr (password, after, has, unfailed, made)) = reported made.made output ended.status made.reports
+  pub create_output : (cost : Cost) (block_size : ℕ) (stream rest : Chance) → RanCreate trace faults G cost block_size stream rest input output vault keeper ended → IsUnfailed output ⊎ (ended.status ≡ status.OutputFault)
+  create_output cost block_size stream rest (inl u) = inl u.unwritten.1
+  create_output cost block_size stream rest (inr (password, after, has, unfailed, made)) = reported made.made output ended.status made.reports
 
   -- ---- a session
 
@@ -91,7 +92,7 @@ made_done (Ok id) output ended P r e p = p
 made_done (Err error) output ended P r e p = absurd (opening_done error (sym r.0 ∙ e))
 
 -- the record of a file system that was made knows one block at its first version
-pub young_of : {V : Type 0} {K : Type 0} (trace : V → Option (List Call)) (faults : V → ℕ) (G : KeeperGhosts K) (input output : Stream) (vault : V) (keeper : K) (ended : Ended V K) (cost : Cost) (block_size : ℕ) (draws : Draws)
-    → RanCreate trace faults G cost block_size draws input output vault keeper ended → ended.status ≡ status.Done → KnowsOnly (G.kept ended.keeper) (root_of draws.root)
-young_of trace faults G input output vault keeper ended cost block_size draws (inl u) e = absurd (unread_done input ended.status u.cause e)
-young_of trace faults G input output vault keeper ended cost block_size draws (inr (password, after, has, unfailed, made)) e = made_done made.made output ended.status _ made.reports e made.versions
+pub young_of : {V : Type 0} {K : Type 0} (trace : V → Option (List Call)) (faults : V → ℕ) (G : KeeperGhosts K) (input output : Stream) (vault : V) (keeper : K) (ended : Ended V K) (cost : Cost) (block_size : ℕ) (stream rest : Chance)
+    → RanCreate trace faults G cost block_size stream rest input output vault keeper ended → ended.status ≡ status.Done → KnowsOnly (G.kept ended.keeper) (root_of (drawn stream).0.root)
+young_of trace faults G input output vault keeper ended cost block_size stream rest (inl u) e = absurd (unread_done input ended.status u.cause e)
+young_of trace faults G input output vault keeper ended cost block_size stream rest (inr (password, after, has, unfailed, made)) e = made_done made.made output ended.status _ made.reports e made.versions

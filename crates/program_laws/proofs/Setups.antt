@@ -20,7 +20,7 @@ use Rattle.fs_model.specs.Tree.{Tree, empty_tree}
 use Rattle.session_laws.proofs.Configuration.{same_settings}
 use Rattle.copy_file.specs.line_io.Lines.{first_line}
 use Rattle.copy_file.specs.line_io.Streams.{Stream, HasFailed}
-use Rattle.check_runs.specs.mount_stores.Drawing.{seal_drawn}
+use Rattle.check_runs.specs.mount_stores.Drawing.{drawn, seal_drawn}
 use Rattle.check_runs.specs.mount.Making.{Created as Made, IsMade}
 use Rattle.session_laws.specs.config_file.Sealing.{sealed_file}
 use Rattle.check_runs.specs.mount_stores.Making.{CreateCause, new_settings}
@@ -167,7 +167,10 @@ module _ {V : Type 0} {K : Type 0} (trace : V → Option (List Call)) (faults : 
 
   -- ---- create
 
-  module _ (cost : Cost) (block_size : ℕ) (draws : Draws) (bare : IsBare Before) where
+  module _ (cost : Cost) (block_size : ℕ) (stream rest : Chance) (bare : IsBare Before) where
+    abbrev draws : Draws
+    draws = (drawn stream).0
+
     abbrev c : Settings
     c = new_settings block_size draws
 
@@ -206,7 +209,7 @@ module _ {V : Type 0} {K : Type 0} (trace : V → Option (List Call)) (faults : 
     by_made (Err open_error.FaultState) reports is_id opens stands cause = absurd (quiet.state_unfailed cause)
     by_made (Err error) reports is_id opens stands cause = absurd cause
 
-    pub create : input.old ≡ Some bytes → ¬ IsLongLine (first_line bytes) → RanCreate trace faults G cost block_size draws input output vault keeper ended → CreateEnd
+    pub create : input.old ≡ Some bytes → ¬ IsLongLine (first_line bytes) → RanCreate trace faults G cost block_size stream rest input output vault keeper ended → CreateEnd
     create told short (inl u) =
         inl (record {
           ends = one_unread input bytes told short quiet.input_unfailed quiet.few ended.status u.cause;
@@ -214,6 +217,6 @@ module _ {V : Type 0} {K : Type 0} (trace : V → Option (List Call)) (faults : 
           leaves = inl (ap G.kept u.uncalled.same_keeper ∙ bare.kept, λ name. ap (λ v. last_told name (trace v)) u.uncalled.same_vault ∙ bare.unchanged.none name);
         })
     create told short (inr (password, after, has, unfailed, m)) =
-        let t : IsCreated trace faults G cost block_size draws (first_line bytes) output vault keeper ended =
-        subst (λ x. IsCreated trace faults G cost block_size draws x output vault keeper ended) (password_is input.old bytes password after told has.is_next) m in
+        let t : IsCreated trace faults G cost block_size stream rest (first_line bytes) output vault keeper ended =
+        subst (λ x. IsCreated trace faults G cost block_size stream rest x output vault keeper ended) (password_is input.old bytes password after told has.is_next) m in
         by_made t.made t.reports t.tells.id t.opens (t.stands bare.unchanged bare.kept) t.tells.cause

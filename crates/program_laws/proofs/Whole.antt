@@ -22,9 +22,10 @@ use Rattle.memory_outside.specs.Keepers.{KeeperState}
 use Rattle.memory_outside.specs.Vaults.{VaultState}
 use Rattle.cryfs_shell.specs.mount.Making.{KnowsOnly}
 use Rattle.cryfs_shell.specs.mount.Representing.{Represents}
+use Rattle.cryfs_shell.specs.mount_stores.Drawing.{drawn}
 use Rattle.cryfs_shell.specs.mount_stores.Making.{new_settings}
 use Rattle.cryfs_shell.specs.mount_stores.Opening.{IsLoaded}
-use Rattle.cryfs_shell.specs.mount_stores.declared.draws.Draws.{Draws}
+use Rattle.rand_core.specs.Stream.{Stream as Chance}
 use Rattle.outside.specs.Causes.{RoseBy}
 use Rattle.outside.specs.Changes.{FileChanges}
 use Rattle.outside.specs.Streams.{appends}
@@ -88,20 +89,20 @@ short long = omega (arith, long)
 
 -- ---- create
 
-abbrev pub Ran : {V : Type 0} {K : Type 0} → (V → Option (List Call)) → (V → ℕ) → KeeperGhosts K → CreateOptions → Draws → Stream → Stream → V → K → Ended V K → Type 0
-Ran trace faults G options draws input output vault keeper ended = RanCreate trace faults G options.params options.block_size draws input output vault keeper ended
+abbrev pub Ran : {V : Type 0} {K : Type 0} → (V → Option (List Call)) → (V → ℕ) → KeeperGhosts K → CreateOptions → Chance → Chance → Stream → Stream → V → K → Ended V K → Type 0
+Ran trace faults G options stream rest input output vault keeper ended = RanCreate trace faults G options.params options.block_size stream rest input output vault keeper ended
 
 module _ {V : Type 0} {K : Type 0} (trace : V → Option (List Call)) (faults : V → ℕ) (G : KeeperGhosts K) (complete : CreateCompletes trace faults G) (input output : Stream) (vault : V) (keeper : K) (ended : Ended V K)
-    (options : CreateOptions) (draws : Draws) (ran : Ran trace faults G options draws input output vault keeper ended) (bytes : List ℕ) (told : input.old ≡ Some bytes) (is_short : ¬ IsLongLine (first_line bytes))
+    (options : CreateOptions) (stream rest : Chance) (ran : Ran trace faults G options stream rest input output vault keeper ended) (bytes : List ℕ) (told : input.old ≡ Some bytes) (is_short : ¬ IsLongLine (first_line bytes))
     (bare : IsBare (outside_of trace faults G vault keeper))
     (quiet : IsUnfailed output → IsUntroubled input output (outside_of trace faults G vault keeper) (outside_of trace faults G ended.vault ended.keeper)) where
   abbrev CreateEnd : Type 0
-  CreateEnd = StaysOrMakes output (first_line bytes) (new_settings options.block_size draws) (outside_of trace faults G ended.vault ended.keeper) ended.status
-      ⊎ IsDone output (created_text draws.fs_id) (first_line bytes) (new_settings options.block_size draws) empty_tree (outside_of trace faults G ended.vault ended.keeper) ended.status
+  CreateEnd = StaysOrMakes output (first_line bytes) (new_settings options.block_size (drawn stream).0) (outside_of trace faults G ended.vault ended.keeper) ended.status
+      ⊎ IsDone output (created_text (drawn stream).0.fs_id) (first_line bytes) (new_settings options.block_size (drawn stream).0) empty_tree (outside_of trace faults G ended.vault ended.keeper) ended.status
 
   ended_so : CreateEnd ⊎ (ended.status ≡ OutputFault)
-  ended_so = elim (create_output trace faults G input output vault keeper ended options.params options.block_size draws ran) as (λ _. CreateEnd ⊎ (ended.status ≡ OutputFault)) [
-    | inl unfailed ↦ inl (complete options.params options.block_size draws input output vault keeper ended bytes ran bare told is_short (quiet unfailed))
+  ended_so = elim (create_output trace faults G input output vault keeper ended options.params options.block_size stream rest ran) as (λ _. CreateEnd ⊎ (ended.status ≡ OutputFault)) [
+    | inl unfailed ↦ inl (complete options.params options.block_size stream rest input output vault keeper ended bytes ran bare told is_short (quiet unfailed))
     | inr failed ↦ inr failed
   ]
 
@@ -112,8 +113,8 @@ module _ {V : Type 0} {K : Type 0} (trace : V → Option (List Call)) (faults : 
     | inr failed ↦ inr failed
   ]
 
-  pub made_so : ended.status ≡ Done → Leaves (first_line bytes) (new_settings options.block_size draws) empty_tree (outside_of trace faults G ended.vault ended.keeper)
-  made_so done = elim ended_so as (λ _. Leaves (first_line bytes) (new_settings options.block_size draws) empty_tree (outside_of trace faults G ended.vault ended.keeper)) [
+  pub made_so : ended.status ≡ Done → Leaves (first_line bytes) (new_settings options.block_size (drawn stream).0) empty_tree (outside_of trace faults G ended.vault ended.keeper)
+  made_so done = elim ended_so as (λ _. Leaves (first_line bytes) (new_settings options.block_size (drawn stream).0) empty_tree (outside_of trace faults G ended.vault ended.keeper)) [
     | inl (inl stays) ↦ absurd (memory_done (sym stays.ends ∙ done))
     | inl (inr made) ↦ made.leaves
     | inr failed ↦ absurd (fault_done (sym failed ∙ done))

@@ -12,9 +12,9 @@ use Rattle.check_runs.specs.setup_runs.PasswdText.{changed_text}
 use Rattle.fs_model.specs.Tree.{Tree, empty_tree}
 use Rattle.copy_file.specs.line_io.Lines.{first_line}
 use Rattle.copy_file.specs.line_io.Streams.{Stream, Untouched}
+use Rattle.check_runs.specs.mount_stores.Drawing.{drawn}
 use Rattle.check_runs.specs.mount_stores.Making.{IsUnchanged, new_settings}
 use Rattle.check_runs.specs.mount_stores.Identities.{HasEmptyList}
-use Rattle.check_runs.specs.mount_stores.declared.draws.Draws.{Draws}
 use Rattle.outside.specs.Streams.{appends}
 use Rattle.outside.specs.Trace.{At, Call}
 use Rattle.outside.specs.declared.keeper.Keeper.{Ghosts as KeeperGhosts}
@@ -85,8 +85,8 @@ pub record StaysOrMakes (output : Stream) (password : List ℕ) (c : Settings) (
 -- where nothing lies, nothing fails and nothing is there, `create` makes a file system with the empty tree, or finds no memory
 abbrev pub CreateCompletes : {V : Type 0} → {K : Type 0} → (V → Option (List Call)) → (V → ℕ) → KeeperGhosts K → Type 0
 CreateCompletes {V = V} {K = K} trace faults G =
-    (cost : Cost) (block_size : ℕ) (draws : Draws) (input output : Stream) (vault : V) (keeper : K) (ended : Ended V K) (bytes : List ℕ)
-    → RanCreate trace faults G cost block_size draws input output vault keeper ended
+    (cost : Cost) (block_size : ℕ) (chance left : Chance) (input output : Stream) (vault : V) (keeper : K) (ended : Ended V K) (bytes : List ℕ)
+    → RanCreate trace faults G cost block_size chance left input output vault keeper ended
     → OfRun trace faults G vault keeper ended (λ before after. IsBare before → input.old ≡ Some bytes → ¬ IsLongLine (first_line bytes) → IsUntroubled input output before after
-    → StaysOrMakes output (first_line bytes) (new_settings block_size draws) after ended.status
-    ⊎ IsDone output (created_text draws.fs_id) (first_line bytes) (new_settings block_size draws) empty_tree after ended.status)
+    → StaysOrMakes output (first_line bytes) (new_settings block_size (drawn chance).0) after ended.status
+    ⊎ IsDone output (created_text (drawn chance).0.fs_id) (first_line bytes) (new_settings block_size (drawn chance).0) empty_tree after ended.status)

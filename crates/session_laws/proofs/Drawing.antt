@@ -1,5 +1,5 @@
 -- What a session draws for the files that it seals, from its lines.
-use Rattle.std.proofs.Common.{◌≡◌, ◌++◌, ℕ, Bool, true, false, List, [], ◌∷◌, refl, sym, ap, subst, ◌∙◌, inl, inr}
+use Rattle.std.proofs.Common.{◌≡◌, ◌++◌, ℕ, Bool, true, false, List, [], ◌∷◌, refl, sym, ap, subst, ◌∙◌, inl, inr, append_assoc}
 use Rattle.std.specs.Prelude.{Result, is_some}
 use Rattle.std.specs.FinMap as fin
 use Rattle.std.proofs.lemmas.Bool.{or_parts}
@@ -16,7 +16,7 @@ use Rattle.mount.specs.block_versions.StoreLaws.{has-keys}
 use Rattle.mount.proofs.local_state_lemmas.Records.{one_reading}
 use Rattle.mount.specs.local_state.Record.{PlainState, IsRecord}
 use Rattle.mount.specs.Mounts.{Unopened}
-use Rattle.mount.specs.Sealing.{Draw, AreVectors, HoldsSealed, View, view_of, view_closed, IsSealedFor, PutsSealed, AddsSealed, SealsFresh, IsKeptList, OpensSealed}
+use Rattle.mount.specs.Sealing.{Draw, known_after, AreVectors, ComesFrom, HoldsSealed, IsNamed as IsNamedFrom, View, view_of, view_closed, PutsSealed, AddsSealed, AreSealed, SealsFresh, IsKeptList, OpensSealed}
 use Rattle.mount.specs.SealingLaws.{draws_then, holds_marked, holds_more, sealed_then, seals_then, vectors_then}
 use Rattle.mount.specs.declared.mount.Halted.{Halted}
 use Rattle.mount.specs.declared.mount.Mount.{Mount}
@@ -24,16 +24,17 @@ use Rattle.mount.specs.mount_core.Keeping.{IsSameOrRecord}
 use Rattle.run_frame.specs.mount_stores.Identities.{KeepsRecord}
 use Rattle.run_frame.specs.mount_stores.Tower.{Cached, held_in, tower_durables}
 use Rattle.outside.specs.Changes.{FileChanges, change_at}
-use Rattle.outside.specs.Trace.{Call, block, config, put, got, removed}
+use Rattle.outside.specs.Trace.{At, Call, block, config, put, got, removed}
 use Rattle.outside.specs.declared.keeper.Keeper.{Ghosts as KeeperGhosts}
 use Rattle.rand_core.specs.Stream.{Stream}
+use Rattle.mount.specs.record_saver.Saving.{IsRecordOf}
 use Rattle.mount.specs.record_saver.declared.saver.SyncError.{SyncError}
 use Rattle.mount.proofs.store_api_lemmas.Draws.{later_same}
 use Rattle.mount.specs.store_api.Content.{Id}
 use Rattle.mount.specs.store_api.Holdings.{has_id}
 use Rattle.mount.specs.mount_core.Showing.{Showing}
 use Rattle.session_laws.specs.Answering.{store_of, kept_of, MountAnswers, mount_hosting, drawing_hosting}
-use Rattle.session_laws.specs.Drawing.{WaitsIn, KnowsId, IsSealedSince, PutsSince, AddsSince, DrawsVectors, DrawsNoNames}
+use Rattle.session_laws.specs.Drawing.{Origin, WaitsAs, KnowsId, IsNamed, ComesSince, CallsSince, AddsSince, AreSince, DrawsVectors, DrawsNoNames}
 use Rattle.session_laws.specs.Runs.{Outside, outside_of}
 use Rattle.session_laws.specs.Turns.{Begun, Closing}
 
@@ -42,75 +43,117 @@ true_is_false e = cc
 
 -- ---- a run that does nothing
 
-pub adds_nothing : (drawn : List Draw) (kept : Option (List ℕ)) (calls : Option (List Call)) → AddsSince drawn kept calls calls
-adds_nothing drawn kept None = refl
-adds_nothing drawn kept (Some calls) = ([], refl, tt)
+abbrev pub origin : List Id → List Draw → Option (List ℕ) → Option (List ℕ) → Origin
+origin known drawn kept file = record { known = known; drawn = drawn; kept = kept; config = file }
+
+pub adds_nothing : (o : Origin) (calls : Option (List Call)) → AddsSince o calls calls
+adds_nothing o None = refl
+adds_nothing o (Some calls) = ([], refl, tt)
+
+all_append : (P : Call → Type 0) (first later : List Call) → AllByRecursion P first → AllByRecursion P later → AllByRecursion P (first ++ later)
+all_append P [] later a b = b
+all_append P (call ∷ calls) later a b = (a.0, all_append P calls later a.1 b)
+
+pub since_then : (o : Origin) (a b c : Option (List Call)) → AddsSince o a b → AddsSince o b c → AddsSince o a c
+since_then o None b c first then = subst (λ x. AddsSince o x c) first then
+since_then o (Some old) b c first then =
+    let later : AddsSince o (Some (first.0 ++ old)) c = subst (λ x. AddsSince o x c) first.1 then in
+    (later.0 ++ first.0, later.1 ∙ ap Some (sym (append_assoc later.0 first.0 old)), all_append (CallsSince o) later.0 first.0 later.2 first.2)
+
+pub waited : (o : Origin) (name : At) (change : Option (List ℕ)) → WaitsAs o.kept name change → ComesSince o name change
+waited o (block id) (Some bytes) w = inr w
+waited o (block id) None w = inr w
+waited o config change w = inr w
 
 pub draws_nothing : (stream : Stream) (o : Outside) → DrawsVectors stream stream o o
-draws_nothing stream o = record { known = []; knows = λ id has. absurd (cc has); drawn = []; draws = later_same stream; puts = adds_nothing [] o.kept o.calls; waits = λ id bytes w. inr w }
+draws_nothing stream o = record {
+  known = [];
+  knows = λ id has. absurd (cc has);
+  drawn = [];
+  draws = later_same stream;
+  since = record { calls = adds_nothing (origin [] [] o.kept None) o.calls; waits = waited (origin [] [] o.kept None) };
+}
 
 pub named_nothing : (stream : Stream) (o : Outside) → DrawsNoNames stream stream o o
 unfolding draws_nothing
 named_nothing stream o = record { vectors = draws_nothing stream o; unnamed = tt }
 
--- ---- by the record that was kept in place of the list in it
+-- ---- by the record that was kept in place of what waited
 
-module _ (drawn : List Draw) (kept : Option (List ℕ)) (list : FileChanges) (is_kept : IsKeptList kept list) where
-  pub sealed_since : (id bytes : List ℕ) → IsSealedFor drawn list id bytes → IsSealedSince drawn kept id bytes
-  sealed_since id bytes (inl is) = inl is
-  sealed_since id bytes (inr waits) = elim is_kept as (λ _. IsSealedSince drawn kept id bytes) [
-    | inl none ↦ let no : change_at (block id) [] ≡ Some (Some bytes) = subst (λ (l : FileChanges). change_at (block id) l ≡ Some (Some bytes)) none waits in absurd (cc)
-    | inr (state, loaded) ↦ inr (record { state = state; list = list; keeps = loaded.keeps; waits = waits })
-  ]
+module _ (before : View) (o : Origin) (comes : (name : At) (change : Option (List ℕ)) → ComesFrom o.drawn before name change → ComesSince o name change) (named : (id : Id) → IsNamedFrom o.drawn before id → IsNamed o id) where
+  puts_since : (call : Call) → PutsSealed o.drawn before call → CallsSince o call
+  puts_since (put name bytes ok) is = comes name (Some bytes) is
+  puts_since (removed name ok) is = comes name None is
+  puts_since (got (block id) max answer) is = named id is
+  puts_since (got config max answer) is = tt
 
-  puts_since : (call : Call) → PutsSealed drawn list call → PutsSince drawn kept call
-  puts_since (put (block id) bytes ok) is = sealed_since id bytes is
-  puts_since (put config bytes ok) is = tt
-  puts_since (got name max answer) is = tt
-  puts_since (removed name ok) is = tt
-
-  calls_since : (calls : List Call) → AllByRecursion (PutsSealed drawn list) calls → AllByRecursion (PutsSince drawn kept) calls
+  calls_since : (calls : List Call) → AllByRecursion (PutsSealed o.drawn before) calls → AllByRecursion (CallsSince o) calls
   calls_since [] all = tt
   calls_since (call ∷ calls) all = (puts_since call all.0, calls_since calls all.1)
 
-  pub adds_since : (old new : Option (List Call)) → AddsSealed drawn list old new → AddsSince drawn kept old new
+  pub adds_since : (old new : Option (List Call)) → AddsSealed o.drawn before old new → AddsSince o old new
   adds_since None new adds = adds
   adds_since (Some old) new adds = (adds.0, adds.1, calls_since adds.0 adds.2)
 
+-- what comes of the list of the record that was kept
+module _ (known : List Id) (drawn : List Draw) (kept sealed : Option (List ℕ)) (list : FileChanges) (calls : Option (List Call)) (is_kept : IsKeptList kept list) where
+  abbrev Was : View
+  Was = record { list = list; calls = calls; known = known }
+
+  abbrev Own : Origin
+  Own = origin known drawn kept sealed
+
+  was_kept : (name : At) (change : Option (List ℕ)) → change_at name list ≡ Some change → WaitsAs kept name change
+  was_kept name change waits = elim is_kept as (λ _. WaitsAs kept name change) [
+    | inl none ↦ let no : change_at name [] ≡ Some change = subst (λ (l : FileChanges). change_at name l ≡ Some change) none waits in absurd (cc)
+    | inr (state, loaded) ↦ record { state = state; list = list; keeps = loaded.keeps; waits = waits }
+  ]
+
+  pub comes_since : (name : At) (change : Option (List ℕ)) → ComesFrom drawn Was name change → ComesSince Own name change
+  comes_since (block id) (Some bytes) (inl is) = inl is
+  comes_since (block id) (Some bytes) (inr waits) = inr (was_kept (block id) (Some bytes) waits)
+  comes_since (block id) None (inl is) = inl is
+  comes_since (block id) None (inr waits) = inr (was_kept (block id) None waits)
+  comes_since config change waits = inr (was_kept config change waits)
+
 -- ---- what waits in the records of a session
 
-pub nothing_waits : (drawn : List Draw) (list : FileChanges) (kept : Option (List ℕ)) (state : PlainState) → KeepsRecord kept state [] → HoldsSealed drawn list kept
-nothing_waits drawn list kept state keeps = record { state = state; waiting = []; keeps = keeps; sealed = λ id bytes is. absurd (cc) }
+pub nothing_waits : (drawn : List Draw) (before : View) (kept : Option (List ℕ)) (state : PlainState) → KeepsRecord kept state [] → HoldsSealed drawn before kept
+nothing_waits drawn before kept state keeps = record { state = state; waiting = []; keeps = keeps; sealed = λ name change is. absurd (cc) }
 
-pub waits_of : (drawn : List Draw) (list : FileChanges) (kept : Option (List ℕ)) → HoldsSealed drawn list kept → (id bytes : List ℕ) → WaitsIn kept id bytes → IsSealedFor drawn list id bytes
-waits_of drawn list kept k id bytes w =
+pub waits_of : (drawn : List Draw) (before : View) (kept : Option (List ℕ)) → HoldsSealed drawn before kept → (name : At) (change : Option (List ℕ)) → WaitsAs kept name change → ComesFrom drawn before name change
+waits_of drawn before kept k name change w =
     let same : k.keeps.bytes ≡ w.keeps.bytes = let a = k.keeps.kept in let b = w.keeps.kept in cc in
     let one = one_reading w.state k.state w.list k.waiting w.keeps.bytes w.keeps.is_record (subst (λ x. IsRecord k.state k.waiting x) same k.keeps.is_record) in
-    k.sealed id bytes (subst (λ (l : FileChanges). change_at (block id) l ≡ Some (Some bytes)) one.1 w.waits)
+    k.sealed name change (subst (λ (l : FileChanges). change_at name l ≡ Some change) one.1 w.waits)
 
-module _ {V : Type 0} (trace : V → Option (List Call)) (drawn : List Draw) (list : FileChanges) (store : Cached V)
-    (each : (id bytes : List ℕ) → change_at (block id) ((tower_durables trace).list store) ≡ Some (Some bytes) → IsSealedFor drawn list id bytes) where
-  listed_sealed : (with_list : Bool) (id bytes : List ℕ) → change_at (block id) (listed with_list (held_in store).list) ≡ Some (Some bytes) → IsSealedFor drawn list id bytes
-  listed_sealed true id bytes is = each id bytes is
-  listed_sealed false id bytes is = absurd (cc)
+module _ {V : Type 0} (trace : V → Option (List Call)) (drawn : List Draw) (before : View) (store : Cached V)
+    (each : (name : At) (change : Option (List ℕ)) → change_at name ((tower_durables trace).list store) ≡ Some change → ComesFrom drawn before name change) where
+  listed_sealed : (with_list : Bool) (name : At) (change : Option (List ℕ)) → change_at name (listed with_list (held_in store).list) ≡ Some change → ComesFrom drawn before name change
+  listed_sealed true name change is = each name change is
+  listed_sealed false name change is = absurd (cc)
 
-  -- a record of the store, or what was kept
-  keeps_or : (old new : Option (List ℕ)) → HoldsSealed drawn list old → IsSameOrRecord (tower_durables trace) store old new → HoldsSealed drawn list new
-  keeps_or old new k (inl same) = subst (λ x. HoldsSealed drawn list x) (sym same) k
-  keeps_or old new k (inr (bytes, with_list, is, is_record)) = record {
+  -- a record of the store
+  pub holds_record : (kept : Option (List ℕ)) → IsRecordOf (tower_durables trace) store kept → HoldsSealed drawn before kept
+  holds_record kept (bytes, with_list, is, is_record) = record {
     state = (held_in store).state;
     waiting = listed with_list (held_in store).list;
     keeps = record { bytes = bytes; kept = is; is_record = is_record };
     sealed = listed_sealed with_list;
   }
 
+  -- or what was kept
+  pub keeps_or : (old new : Option (List ℕ)) → HoldsSealed drawn before old → IsSameOrRecord (tower_durables trace) store old new → HoldsSealed drawn before new
+  keeps_or old new k (inl same) = subst (λ x. HoldsSealed drawn before x) (sym same) k
+  keeps_or old new k (inr is) = holds_record new is
+
 -- ---- lines
 
 -- up to here: what waits, in the mount and in its records, was sealed since, or waited at first
 pub record SealedSoFar {V : Type 0} {K : Type 0} (trace : V → Option (List Call)) (G : KeeperGhosts K) (first : Stream) (start : View) (now : Stream) (mount : Mount V K) : Type 0 where
   pub fresh : SealsFresh first now start (view_of trace mount)
-  pub kept : HoldsSealed fresh.drawn start.list (kept_of G mount)
-  pub last : mount.core.violated ≡ false → HoldsSealed fresh.drawn start.list (Some mount.core.saver.last.items)
+  pub kept : HoldsSealed fresh.drawn start (kept_of G mount)
+  pub last : mount.core.violated ≡ false → HoldsSealed fresh.drawn start (Some mount.core.saver.last.items)
 
 -- the same, and no seed was drawn
 pub record KnownSoFar {V : Type 0} {K : Type 0} (trace : V → Option (List Call)) (G : KeeperGhosts K) (first : Stream) (start : View) (now : Stream) (mount : Mount V K) : Type 0 where
@@ -124,10 +167,10 @@ module _ {V : Type 0} {K : Type 0} (shows : Showing) (trace : V → Option (List
   module _ (now after : Stream) (old new : Mount V K) (moment : Instant) (asked : Asked) (answer : Answer) (x : SoFar now old) (line : MountAnswers shows trace faults G moment old asked answer new)
       (fresh : SealsFresh now after (view_of trace old) (view_of trace new)) where
     abbrev Keeps : Option (List ℕ) → Type 0
-    Keeps kept = HoldsSealed x.fresh.drawn start.list kept
+    Keeps kept = HoldsSealed x.fresh.drawn start kept
 
     or_record : (a b : Option (List ℕ)) → Keeps a → IsSameOrRecord (tower_durables trace) (store_of old) a b → Keeps b
-    or_record a b k is = keeps_or trace x.fresh.drawn start.list (store_of old) x.fresh.sealed.waits a b k is
+    or_record a b k is = keeps_or trace x.fresh.drawn start (store_of old) x.fresh.sealed.waits a b k is
 
     kept_on : (stood bad : Bool) → old.core.violated ≡ stood → is_violation answer ≡ bad → Keeps (kept_of G new)
     kept_on true bad s e = subst Keeps (sym (ap (λ c. G.kept c.saver.keeper) (line.line.form.refused s).1)) x.kept
@@ -135,7 +178,7 @@ module _ {V : Type 0} {K : Type 0} (shows : Showing) (trace : V → Option (List
     kept_on false true s e =
         let m = line.line.keeps.marks e in
         elim m.2 as (λ _. Keeps (kept_of G new)) [
-          | inl marked ↦ subst Keeps (sym marked.0) (holds_marked x.fresh.drawn start.list m.0 (or_record (Some old.core.saver.last.items) (Some m.0) (x.last s) m.1))
+          | inl marked ↦ subst Keeps (sym marked.0) (holds_marked x.fresh.drawn start m.0 (or_record (Some old.core.saver.last.items) (Some m.0) (x.last s) m.1))
           | inr is ↦ or_record (kept_of G old) (kept_of G new) x.kept is
         ]
 
@@ -147,8 +190,8 @@ module _ {V : Type 0} {K : Type 0} (shows : Showing) (trace : V → Option (List
     sealed_line : SoFar after new
     sealed_line = record {
       fresh = seals_then first now after start (view_of trace old) (view_of trace new) x.fresh fresh;
-      kept = holds_more x.fresh.drawn fresh.drawn start.list (kept_of G new) (kept_on old.core.violated (is_violation answer) refl refl);
-      last = λ v. holds_more x.fresh.drawn fresh.drawn start.list (Some new.core.saver.last.items) (last_on old.core.violated (is_violation answer) refl refl v);
+      kept = holds_more x.fresh.drawn fresh.drawn start (kept_of G new) (kept_on old.core.violated (is_violation answer) refl refl);
+      last = λ v. holds_more x.fresh.drawn fresh.drawn start (Some new.core.saver.last.items) (last_on old.core.violated (is_violation answer) refl refl v);
     }
 
   module _ {H : Type 0} (mount : H → Mount V K) (stream : H → Stream) (chance : H → ℕ) where
@@ -192,11 +235,11 @@ module _ {V : Type 0} {K : Type 0} (shows : Showing) (trace : V → Option (List
 
   pub sealed_opened : SealedSoFar trace G stream Start stream old
   sealed_opened =
-      let nothing = nothing_waits [] opens.0 (kept_of G old) Loaded begun.attached.kept in
+      let nothing = nothing_waits [] Start (kept_of G old) Loaded begun.attached.kept in
       record {
-        fresh = record { drawn = []; draws = later_same stream; sealed = record { waits = opens.2.waits; adds = opens.2.adds }; known = λ id has. has };
+        fresh = record { drawn = []; draws = later_same stream; sealed = opens.2 };
         kept = nothing;
-        last = λ _. subst (λ x. HoldsSealed [] opens.0 x) (begun.opened.ready.core.whole.kept begun.opened.unchanged) nothing;
+        last = λ _. subst (λ x. HoldsSealed [] Start x) (begun.opened.ready.core.whole.kept begun.opened.unchanged) nothing;
       }
 
   pub known_opened : KnownSoFar trace G stream Start stream old
@@ -204,23 +247,29 @@ module _ {V : Type 0} {K : Type 0} (shows : Showing) (trace : V → Option (List
   known_opened = record { far = sealed_opened; unnamed = tt }
 
   module _ (last_vault : V) (last_keeper : K) (left : Stream) (new : Mount V K) (closing : Result Unit SyncError) (closed : Closing shows trace faults G new closing last_vault last_keeper) (x : SealedSoFar trace G stream Start left new) where
-    pub kept_closed : (stood : Bool) → new.core.violated ≡ stood → HoldsSealed x.fresh.drawn opens.0 (G.kept last_keeper)
-    kept_closed true v = subst (λ k. HoldsSealed x.fresh.drawn opens.0 (G.kept k)) (sym (closed.closes.left (inl v)).2) x.kept
-    kept_closed false v = keeps_or trace x.fresh.drawn opens.0 (store_of new) x.fresh.sealed.waits (kept_of G new) (G.kept last_keeper) x.kept (closed.closes.kept v)
+    pub kept_closed : (stood : Bool) → new.core.violated ≡ stood → HoldsSealed x.fresh.drawn Start (G.kept last_keeper)
+    kept_closed true v = subst (λ k. HoldsSealed x.fresh.drawn Start (G.kept k)) (sym (closed.closes.left (inl v)).2) x.kept
+    kept_closed false v = keeps_or trace x.fresh.drawn Start (store_of new) x.fresh.sealed.waits (kept_of G new) (G.kept last_keeper) x.kept (closed.closes.kept v)
+
+    since_closed : AreSince (origin Start.known (x.fresh.drawn ++ []) (G.kept keeper) None) (outside_of trace faults G vault keeper) (outside_of trace faults G last_vault last_keeper)
+    since_closed =
+        let drawn = x.fresh.drawn ++ [] in
+        let all = sealed_then x.fresh.drawn [] Start (view_of trace new) (view_closed (trace last_vault)) x.fresh.sealed closed.closes.sealed in
+        let kept = holds_more x.fresh.drawn [] Start (G.kept last_keeper) (kept_closed new.core.violated refl) in
+        let comes = comes_since Start.known drawn (G.kept keeper) None opens.0 (trace vault) opens.1 in
+        record {
+          calls = adds_since Start (origin Start.known drawn (G.kept keeper) None) comes (λ id is. is) (trace vault) (trace last_vault) all.adds;
+          waits = λ name change w. comes name change (waits_of drawn Start (G.kept last_keeper) kept name change w);
+        }
 
     pub draws_closed : DrawsVectors stream left (outside_of trace faults G vault keeper) (outside_of trace faults G last_vault last_keeper)
-    draws_closed =
-        let drawn = x.fresh.drawn ++ [] in
-        let sealed = sealed_then x.fresh.drawn [] Start (view_of trace new) (view_closed (trace last_vault)) x.fresh.sealed closed.closes.sealed in
-        let kept = holds_more x.fresh.drawn [] opens.0 (G.kept last_keeper) (kept_closed new.core.violated refl) in
-        record {
-          known = Start.known;
-          knows = knows;
-          drawn = drawn;
-          draws = draws_then Start.known x.fresh.drawn [] stream left left x.fresh.draws (later_same left);
-          puts = adds_since drawn (G.kept keeper) opens.0 opens.1 (trace vault) (trace last_vault) sealed.adds;
-          waits = λ id bytes w. sealed_since drawn (G.kept keeper) opens.0 opens.1 id bytes (waits_of drawn opens.0 (G.kept last_keeper) kept id bytes w);
-        }
+    draws_closed = record {
+      known = Start.known;
+      knows = knows;
+      drawn = x.fresh.drawn ++ [];
+      draws = draws_then Start.known x.fresh.drawn [] stream left left x.fresh.draws (later_same left);
+      since = since_closed;
+    }
 
     pub named_closed : AreVectors x.fresh.drawn → DrawsNoNames stream left (outside_of trace faults G vault keeper) (outside_of trace faults G last_vault last_keeper)
     unfolding draws_closed
@@ -238,18 +287,20 @@ draws_session mount stream chance shows trace faults G password vault last_vault
 -- where none was opened
 module _ {V : Type 0} {K : Type 0} (shows : Showing) (trace : V → Option (List Call)) (faults : V → ℕ) (G : KeeperGhosts K) (password : List ℕ) (vault : V) (keeper : K) (h : Halted V K) (stream : Stream)
     (u : Unopened shows trace faults G password vault keeper h) where
+  since_unopened : AreSince (origin [] [] (G.kept keeper) None) (outside_of trace faults G vault keeper) (outside_of trace faults G h.vault h.keeper)
+  since_unopened =
+      let was : View = record { list = u.fails.sealed.0; calls = trace vault; known = [] } in
+      record {
+        calls = adds_since was (origin [] [] (G.kept keeper) None) (comes_since [] [] (G.kept keeper) None u.fails.sealed.0 (trace vault) u.fails.sealed.1) (λ id is. is) (trace vault) (trace h.vault) u.fails.sealed.2.adds;
+        waits = λ name change w. elim u.leaves.kept as (λ _. ComesSince (origin [] [] (G.kept keeper) None) name change) [
+          | inl same ↦ waited (origin [] [] (G.kept keeper) None) name change (subst (λ x. WaitsAs x name change) same w)
+          | inr (state, list, loaded, keeps) ↦
+              comes_since [] [] (G.kept keeper) None [] (trace vault) (inl refl) name change (waits_of [] (view_closed (trace vault)) (G.kept h.keeper) (nothing_waits [] (view_closed (trace vault)) (G.kept h.keeper) state keeps) name change w)
+        ];
+      }
+
   pub draws_unopened : DrawsVectors stream stream (outside_of trace faults G vault keeper) (outside_of trace faults G h.vault h.keeper)
-  draws_unopened = record {
-    known = [];
-    knows = λ id has. absurd (cc has);
-    drawn = [];
-    draws = later_same stream;
-    puts = adds_since [] (G.kept keeper) u.fails.sealed.0 u.fails.sealed.1 (trace vault) (trace h.vault) u.fails.sealed.2.adds;
-    waits = λ id bytes w. elim u.leaves.kept as (λ _. IsSealedSince [] (G.kept keeper) id bytes) [
-      | inl same ↦ inr (subst (λ x. WaitsIn x id bytes) same w)
-      | inr (state, list, loaded, keeps) ↦ sealed_since [] (G.kept keeper) [] (inl refl) id bytes (waits_of [] [] (G.kept h.keeper) (nothing_waits [] [] (G.kept h.keeper) state keeps) id bytes w)
-    ];
-  }
+  draws_unopened = record { known = []; knows = λ id has. absurd (cc has); drawn = []; draws = later_same stream; since = since_unopened }
 
   pub named_unopened : DrawsNoNames stream stream (outside_of trace faults G vault keeper) (outside_of trace faults G h.vault h.keeper)
   unfolding draws_unopened

@@ -2,6 +2,7 @@
 use Rattle.std.proofs.Common.{◌≡◌, ◌⊎◌, ◌≤◌, ◌+◌, ℕ, true, false, List, [], ◌∷◌, length, ap, refl, sym, ◌∙◌, subst, inl, inr, arith}
 use Rattle.std.specs.Prelude.{Result, IsOk, IsErrOf, OnOk, is_some}
 use Rattle.std.specs.declared.option.Option.{Option}
+use Rattle.std.specs.declared.option.Option.TheVariants.{Some}
 use Rattle.std.specs.declared.result.Result.TheVariants.{Ok, Err}
 use Rattle.rand_core.specs.Stream.{Stream as Chance}
 use Rattle.session_laws.specs.answers.Sessions.{Exchange}
@@ -25,6 +26,7 @@ use Rattle.outside.specs.Causes.{RoseBy}
 use Rattle.outside.specs.Going.{GoesOn}
 use Rattle.outside.specs.Trace.{Call}
 use Rattle.outside.specs.declared.keeper.Keeper.{Ghosts as KeeperGhosts}
+use Rattle.session_laws.specs.Drawing.{SealsNone}
 use Rattle.session_laws.specs.Openings.{HasCauses}
 use Rattle.session_laws.specs.run_frame.Statuses.{closing_status}
 use Rattle.run_status.specs.declared.ended.Ended.{Ended}
@@ -204,8 +206,9 @@ module _ {V : Type 0} {K : Type 0} (trace : V → Option (List Call)) (faults : 
       → OnOk change (HasEmptyList (kept_of G left)) → ReplaceKeeps (tower trace faults G) (store_of first) file first.core.saver left.core.saver
       → (tower_durables trace).identity (store_of left) ≡ (tower_durables trace).identity (store_of first) → ((id : List ℕ) → version_of trace left id ≡ version_of trace first id)
       → (tower_durables trace).least (store_of left) ≡ (tower_durables trace).least (store_of first) → StaysLeast (tower trace faults G) (store_of first) (kept_of G first) (kept_of G left)
-      → UnlessDirectory change (vault_faults trace faults left ≡ vault_faults trace faults first) → UnlessState change (keeper_faults G left ≡ keeper_faults G first) → IsChanged trace faults G old new chance left_chance output vault keeper ended
-  changed status output es r drawn synced configures opens holds empty keeps identity versions level least vault_quiet keeper_quiet = record {
+      → UnlessDirectory change (vault_faults trace faults left ≡ vault_faults trace faults first) → UnlessState change (keeper_faults G left ≡ keeper_faults G first)
+      → SealsNone (Some file) (outside_of trace faults G vault keeper) (outside_of trace faults G ended.vault ended.keeper) → IsChanged trace faults G old new chance left_chance output vault keeper ended
+  changed status output es r drawn synced configures opens holds empty keeps identity versions level least vault_quiet keeper_quiet sealed = record {
     was = record {
       opened = first.opened;
       kept = kept_of G first;
@@ -225,6 +228,7 @@ module _ {V : Type 0} {K : Type 0} (trace : V → Option (List Call)) (faults : 
     opens = λ told. opens_after change unchanged (holds (told_on (trace vault) (calls_of trace first) (attached_on old (G.kept keeper) (kept_of G first) (trace vault) (calls_of trace first) first.opened b.attached) told)) opens;
     stays = λ was told k. let before = b.stands.file was told k in stays was change unchanged before (configures (was ∷ []) was before) opens;
     emptied = emptied change unchanged empty;
+    sealed = sealed;
     versions = since keeps identity versions;
     config = config_is trace faults G old vault keeper first left closing ended.vault ended.keeper b z fresh same on (stands synced);
     unmarked = unmarked;

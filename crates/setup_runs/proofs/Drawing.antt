@@ -1,5 +1,5 @@
 -- What a run of `migrate` draws for the files that it seals.
-use Rattle.std.proofs.Common.{◌≡◌, ◌++◌, ℕ, false, List, [], sym, ◌∙◌, subst, inl, inr}
+use Rattle.std.proofs.Common.{◌≡◌, ◌++◌, ℕ, false, List, sym, ◌∙◌, subst, inl, inr}
 use Rattle.std.specs.declared.option.Option.{Option}
 use Rattle.std.specs.declared.option.Option.TheVariants.{Some}
 use Rattle.session_laws.specs.answers.declared.answer.Answer.{Answer}
@@ -15,8 +15,8 @@ use Rattle.rand_core.specs.Stream.{Stream}
 use Rattle.session_laws.proofs.Drawing.{KnownSoFar, SealedSoFar}
 use Rattle.session_laws.specs.store_api.Durables.{with_mark}
 
-kept_then : (x y : List Draw) (a b : View) (was kept : Option (List ℕ)) → AreSealed x a b → HoldsSealed x a.list was → StaysOrSealed y b.list was kept → HoldsSealed (x ++ y) a.list kept
-kept_then x y a b was kept sealed k (inl same) = subst (HoldsSealed (x ++ y) a.list) (sym same) (holds_more x y a.list was k)
+kept_then : (x y : List Draw) (a b : View) (was kept : Option (List ℕ)) → AreSealed x a b → HoldsSealed x a was → StaysOrSealed y b was kept → HoldsSealed (x ++ y) a kept
+kept_then x y a b was kept sealed k (inl same) = subst (HoldsSealed (x ++ y) a) (sym same) (holds_more x y a was k)
 kept_then x y a b was kept sealed k (inr h) = holds_then x y a b kept sealed h
 
 -- blocks were written anew
@@ -28,9 +28,9 @@ sealed_anew trace G first start now after old new answer fresh violated s x =
     let last = x.last fresh in
     record {
       fresh = seals_then first now after start (view_of trace old) (view_of trace new) x.fresh s.seals.fresh;
-      kept = elim s.kept as (λ _. HoldsSealed (before ++ later) start.list (kept_of G new)) [
-        | inl marked ↦ subst (HoldsSealed (before ++ later) start.list) (sym marked)
-            (holds_more before later start.list (Some (with_mark old.core.saver.last.items)) (holds_marked before start.list old.core.saver.last.items last))
+      kept = elim s.kept as (λ _. HoldsSealed (before ++ later) start (kept_of G new)) [
+        | inl marked ↦ subst (HoldsSealed (before ++ later) start) (sym marked)
+            (holds_more before later start (Some (with_mark old.core.saver.last.items)) (holds_marked before start old.core.saver.last.items last))
         | inr stays ↦ kept_then before later start (view_of trace old) (kept_of G old) (kept_of G new) x.fresh.sealed x.kept stays
       ];
       last = λ v. kept_then before later start (view_of trace old) (Some old.core.saver.last.items) (Some new.core.saver.last.items) x.fresh.sealed last (s.last (sym violated ∙ v));

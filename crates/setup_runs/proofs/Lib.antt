@@ -6,6 +6,7 @@ mod Creating
 pub mod Ending
 mod Anew
 mod Drawing
+mod Sealing
 mod Short
 -- Handed on to crates above, which name their lemmas so and needn't list them.
 pub use Rattle.session_laws.proofs.mount_lemmas as mount_lemmas

@@ -1,6 +1,7 @@
 -- What `passwd` does.
 use Rattle.std.specs.Prelude.{◌≡◌, ◌⊎◌, ℕ, ◌+◌, true, List, [], Result, is_some, IsOk, OnOk}
 use Rattle.std.specs.declared.option.Option.{Option}
+use Rattle.std.specs.declared.option.Option.TheVariants.{Some}
 use Rattle.rand_core.specs.Stream.{Stream as Chance}
 use Rattle.session_laws.specs.config_file.ConfigOf.{IsOnly, opened}
 use Rattle.session_laws.specs.config_file.Settings.{Settings, settings_of}
@@ -17,6 +18,7 @@ use Rattle.outside.specs.Trace.{Call}
 use Rattle.outside.specs.declared.keeper.Keeper.{Ghosts as KeeperGhosts}
 use Rattle.session_laws.specs.run_frame.Passwords.{PasswordsUnread}
 use Rattle.session_laws.specs.Causes.{VersionsSince}
+use Rattle.session_laws.specs.Drawing.{SealsNone}
 use Rattle.session_laws.specs.Openings.{HasPasswords, IsUnread, IsUnopened}
 use Rattle.session_laws.specs.run_frame.Statuses.{closing_status}
 use Rattle.run_status.specs.declared.ended.Ended.{Ended}
@@ -56,6 +58,8 @@ pub record IsChanged {V : Type 0} {K : Type 0} (trace : V → Option (List Call)
       → KeptConfigures records (G.kept ended.keeper) (trace ended.vault) file
       ⊎ NewOpens new (sealed_file new was.opened.params (seal_drawn chance).0 (settings_of was.opened.config)) was.opened (outside_of trace faults G ended.vault ended.keeper)
   pub emptied : OnOk change (HasEmptyList (G.kept ended.keeper))
+  -- no block's file was sealed: nothing was put, removed or left waiting but what waited, and the new text
+  pub sealed : SealsNone (Some (sealed_file new was.opened.params (seal_drawn chance).0 (settings_of was.opened.config))) (outside_of trace faults G vault keeper) (outside_of trace faults G ended.vault ended.keeper)
   -- however both ended, a record is kept and no block's version in it rose
   pub versions : VersionsSince (G.kept keeper) (G.kept ended.keeper) []
   -- it is the one under which what was kept stood for a tree

@@ -2,7 +2,6 @@
 ghost use Rattle.std.specs.Prelude.{◌≤◌};
 ghost use Rattle.session_laws.specs.config_file.Settings.{IsBlockSize};
 ghost use Rattle.session_laws.specs.line_io.Streams.{stream_of};
-ghost use Rattle.session_laws.specs.mount_stores.Drawing.{drawn};
 ghost use Rattle.session_laws.specs.Openings.{HasCauses};
 ghost use Rattle.session_laws.specs.Runs.{outside_of};
 ghost use Rattle.setup_runs.specs.Create.{RanCreate, IsCreated};
@@ -28,7 +27,7 @@ pub fn run_create<I: Source, O: Sink, V: Vault, K: Keeper, R: Rng>(
     chance: &mut R,
 ) -> Ended<V, K>
     requires { IsBlockSize block_size }
-    ensures created { RanCreate V.trace V.faults K.Keeper params.now block_size (drawn (R.stream chance.old)).0
+    ensures created { RanCreate V.trace V.faults K.Keeper params.now block_size (R.stream chance.old) (R.stream chance.new)
         (stream_of I.rest I.faults input.old input.new) (stream_of O.written O.faults output.old output.new) storage.vault storage.keeper result }
     ensures causes { HasCauses (outside_of V.trace V.faults K.Keeper storage.vault storage.keeper)
         (outside_of V.trace V.faults K.Keeper result.vault result.keeper) result.status }
@@ -61,7 +60,7 @@ fn create_under<O: Sink, V: Vault, K: Keeper, R: Rng>(
     chance: &mut R,
 ) -> Ended<V, K>
     requires { IsBlockSize block_size }
-    ensures created { IsCreated V.trace V.faults K.Keeper params.now block_size (drawn (R.stream chance.old)).0 password.now
+    ensures created { IsCreated V.trace V.faults K.Keeper params.now block_size (R.stream chance.old) (R.stream chance.new) password.now
         (stream_of O.written O.faults output.old output.new) storage.vault storage.keeper result }
     ensures causes { HasCauses (outside_of V.trace V.faults K.Keeper storage.vault storage.keeper)
         (outside_of V.trace V.faults K.Keeper result.vault result.keeper) result.status }

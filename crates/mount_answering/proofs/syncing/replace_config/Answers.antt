@@ -65,6 +65,7 @@ returns-in-Err g c =
         ok = tt;
         keeps = record { kept = inl refl; last = inl refl };
       };
+      writes = inl (endures.loaded_list store after p.lists.err, p.lists.trace);
     }
 
 pub returns : goal.returns
@@ -118,4 +119,5 @@ returns g c =
           last = elim z.keeps.last [ inl same ↦ inl same | inr of ↦ inr (mid.blobs.tx.store, waiting, of) ];
         };
       };
+      writes = inr (mid.blobs.tx.store, waiting, p.meant.intact, z.wrote);
     }

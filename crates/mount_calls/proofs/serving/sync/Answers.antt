@@ -27,7 +27,7 @@ returns g c =
         emptied = emptied_on g.V.Vault.trace core.blobs.tx.store (g.K.Keeper.kept core.saver.keeper) c.sync.result z.emptied;
         ok = z.ok;
         keeps = z.keeps;
-        sealed = wrote_sealed (tower_durables g.V.Vault.trace) (tower_holdings g.V.Vault.trace).used mount.core.blobs.tx.store core.blobs.tx.store (in_order _ _ r.core.intact.0.0.has_record) z.wrote;
+        sealed = wrote_sealed (tower_durables g.V.Vault.trace) (tower_holdings g.V.Vault.trace).used mount.core.blobs.tx.store core.blobs.tx.store (in_order _ _ r.core.intact.0.0.has_record) m.leaves.stays.used z.wrote;
         unmoved = λ unchanged. let u = z.unmoved unchanged in (u.0, same_mount mount (record mount { core = core }) refl u.1);
       };
     }

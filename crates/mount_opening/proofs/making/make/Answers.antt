@@ -1,4 +1,4 @@
-use Rattle.std.proofs.Common.{◌≡◌, true, length, inl, refl, sym, ◌∙◌, ap, subst, arith, rules}
+use Rattle.std.proofs.Common.{◌≡◌, true, length, inl, inr, refl, sym, ◌∙◌, ap, subst, arith, rules}
 use Rattle.mount_core.specs.data_nodes.Layout.{IsPayloadLen}
 use Rattle.fs_model.specs.Tree.{empty_tree}
 use Rattle.outside.specs.Causes.{RoseBy}
@@ -43,6 +43,7 @@ returns-in-Err g c =
         keeper_cause = λ is. absurd (memory_state is);
         keeper_quiet = refl;
       };
+      draws = inl (record { from = c.args.store; trace = refl; used = refl; loaded = c.in-Err.ensures.lists.err; same = refl });
     }
 
 pub returns-in-Err-root_batch : goal.returns-in-Err-root_batch
@@ -68,6 +69,7 @@ returns-in-Err-root_batch g c =
         keeper_cause = λ is. absurd (memory_state is);
         keeper_quiet = refl;
       };
+      draws = inl (record { from = c.put_config.new.self; trace = p.lists.trace; used = p.stays.used; loaded = g.met.S.Blocks.lawful.same c.put_config.new.self; same = refl });
     }
 
 pub returns-in-Err-apply : goal.returns-in-Err-apply
@@ -99,6 +101,7 @@ returns-in-Err-apply g c =
         keeper_cause = λ is. absurd (memory_state is);
         keeper_quiet = refl;
       };
+      draws = inl (record { from = b; trace = p.lists.trace; used = p.stays.used; loaded = loaded; same = refl });
     }
 
 pub returns : goal.returns
@@ -152,4 +155,19 @@ returns g c =
         keeper_cause = l.keeper_cause;
         keeper_quiet = l.keeper_quiet;
       };
+      draws = inr (record {
+        waiting = b;
+        used = p.stays.used;
+        list = c.in-Ok.ensures.lists.ok;
+        trace = p.lists.trace;
+        payload = puts.bytes;
+        changes = batch;
+        one = puts.one;
+        filled = d;
+        intact = z.intact;
+        makes = applied;
+        draws = c.in-Ok-apply.ensures.ok.draws;
+        wrote = m.wrote;
+        keeps = y.keeps;
+      });
     }

@@ -39,6 +39,7 @@ returns g c =
     record {
       intact = n.intact;
       same = n.made.trace ∙ ap g.V.Vault.trace vault;
+      list = n.made.list ∙ (ap (λ (x : RedoOf g). x.list) s1.vault ∙ (ap (λ (x : RedoOf g). x.list) c.new-redo.ensures ∙ ap list_of c.new.ensures.items));
       few = n.made.faults ∙ ap g.V.Vault.faults vault;
       unused = unused;
       none = λ id. unused_none ((sealed_holdings g.V.Vault.trace).content store id) (has_id ((sealed_holdings g.V.Vault.trace).used store) id) (unused id) (steady.content_used store id n.intact);

@@ -33,14 +33,13 @@ returns-clause-want g c =
     let faults = λ (v : VaultState). v.faults in
     let streams = streams_of input output (host_of (folder_impl.ghosts).tree (folder_impl.ghosts).faults c.new-3.result r.new.host) (g.R.Rng.stream c.args.chance.now) (g.R.Rng.stream r.new.chance) in
     let ran = subst (Did trace faults (listing_impl.ghosts).names keeper_impl.ghosts (map string_bytes c.deref.result.now) c.args.now streams c.new.result c.new-2.result r.result) (ap form_of words ∙ create_form) r.ensures.did in
-    let draws = (drawn (g.R.Rng.stream c.args.chance.now)).0 in
     let told = ap Some c.in-Ok-Ok.ensures'.rest in
     let bare : IsBare (outside_of trace faults keeper_impl.ghosts c.new.result c.new-2.result) = record { kept = c.new-2.ensures.bare; unchanged = record { told = refl; none = λ name. ap (λ t. last_told name (Some t)) c.new.ensures.empty } } in
     let less = few input c.in-Ok-Ok.input.rest r.new.input.rest refl refl c.in-Ok-Ok.ensures'.few in
     let quiet : IsUnfailed output → IsUntroubled input output (outside_in c.new.result c.new-2.result) (outside_in r.result.vault r.result.keeper) =
     λ unfailed. untroubled input output c.new.result r.result.vault c.new-2.result r.result.keeper c.new.ensures.honest c.attest.ensures c.new-2.ensures.honest c.attest-2.ensures
     c.in-Ok-Ok.ensures'.honest.faultless c.attest-3.ensures.faultless less c.new-output.ensures.faultless unfailed in
-    unmade trace faults keeper_impl.ghosts c.setups_complete.ensures.create input output c.new.result c.new-2.result r.result usual draws ran (password ++ 10 ∷ []) told short bare quiet (c.is_done.ensures.no c.if-is_done.false)
+    unmade trace faults keeper_impl.ghosts c.setups_complete.ensures.create input output c.new.result c.new-2.result r.result usual (g.R.Rng.stream c.args.chance.now) (g.R.Rng.stream r.new.chance) ran (password ++ 10 ∷ []) told short bare quiet (c.is_done.ensures.no c.if-is_done.false)
 
 pub returns-then-is_done-clause-made : goal.returns-then-is_done-clause-made
 returns-then-is_done-clause-made g c =
@@ -62,7 +61,7 @@ returns-then-is_done-clause-made g c =
     let done = c.is_done.ensures.yes c.if-is_done.true in
     record {
       c = new_settings usual.block_size draws;
-      leaves = made_so trace faults keeper_impl.ghosts c.setups_complete.ensures.create input output c.new.result c.new-2.result r.result usual draws ran (password ++ 10 ∷ []) told short bare quiet done;
+      leaves = made_so trace faults keeper_impl.ghosts c.setups_complete.ensures.create input output c.new.result c.new-2.result r.result usual (g.R.Rng.stream c.args.chance.now) (g.R.Rng.stream r.new.chance) ran (password ++ 10 ∷ []) told short bare quiet done;
       root = root_of draws.root;
-      young = young_of trace faults keeper_impl.ghosts input output c.new.result c.new-2.result r.result usual.params usual.block_size draws ran done;
+      young = young_of trace faults keeper_impl.ghosts input output c.new.result c.new-2.result r.result usual.params usual.block_size (g.R.Rng.stream c.args.chance.now) (g.R.Rng.stream r.new.chance) ran done;
     }

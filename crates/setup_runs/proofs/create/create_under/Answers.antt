@@ -1,4 +1,5 @@
 use Rattle.setup_runs.proofs.Creating.{created_causes}
+use Rattle.setup_runs.proofs.Sealing.{seals_first}
 use Rattle.setup_runs.proofs.create.create_under.Goals as goal
 
 pub returns-clause-created : goal.returns-clause-created
@@ -15,6 +16,7 @@ returns-clause-created g c =
       newest = m.first.newest;
       salt = m.first.salt;
       client = m.first.client;
+      sealed = seals_first g.V.Vault.trace g.V.Vault.faults g.K.Keeper _ _ _ _ c.args.storage.vault c.create-made.result.1 c.args.storage.keeper c.create-made.result.2 m.seals;
     }
 
 pub returns-clause-causes : goal.returns-clause-causes

@@ -1,7 +1,6 @@
 use Rattle.std.proofs.Common.{refl, inl, inr, sym, subst}
 use Rattle.session_laws.specs.line_io.Reading.{coming}
 use Rattle.session_laws.specs.line_io.Streams.{stream_of}
-use Rattle.session_laws.specs.mount_stores.Drawing.{drawn}
 use Rattle.setup_runs.specs.Create.{IsCreated}
 use Rattle.setup_runs.proofs.Beginning.{held, has_password, unread_causes}
 use Rattle.setup_runs.proofs.create.run_create.Goals as goal
@@ -21,6 +20,6 @@ returns-clause-created g c =
       coming c.in-Ok.reader.ahead (g.I.Source.rest c.read_password.new.input),
       has_password _ _ r.0 r.1 r.2,
       r.2.stands.quiet,
-      subst (λ p. IsCreated g.V.Vault.trace g.V.Vault.faults g.K.Keeper c.args.params.now c.args.block_size (drawn (g.R.Rng.stream c.args.chance.now)).0 p
+      subst (λ p. IsCreated g.V.Vault.trace g.V.Vault.faults g.K.Keeper c.args.params.now c.args.block_size (g.R.Rng.stream c.args.chance.now) (g.R.Rng.stream c.create_under.new.chance) p
           (stream_of g.O.Sink.written g.O.Sink.faults c.args.output.now c.create_under.new.output) c.args.storage.vault c.args.storage.keeper c.create_under.result) (sym h) c.create_under.ensures.created,
     )
