@@ -9,6 +9,12 @@ use run_status::{Status, Storage};
 use std::io;
 use std::process::ExitCode;
 
+/// The past that `main` chooses: no calls, and no save that failed. `run_program` is proved behind any other as well, and no code
+/// reads one.
+fn past() -> CallLog {
+    CallLog::new()
+}
+
 /// Runs the words after the block folder and the state folder, from standard input to standard output. A copy out that ends well is
 /// on the disk.
 fn run_words(rt: &HostRuntime) -> Status {
@@ -16,7 +22,7 @@ fn run_words(rt: &HostRuntime) -> Status {
         Ok(read) => read,
         Err(status) => return status,
     };
-    let Ok(keeper) = inputs.make_keeper(rt, CallLog::new()) else {
+    let Ok(keeper) = inputs.make_keeper(rt, past()) else {
         return Status::Memory;
     };
     let mut host = inputs.host(rt);
@@ -26,7 +32,7 @@ fn run_words(rt: &HostRuntime) -> Status {
         &mut ReaderSource::new(rt.reader()),
         &mut WriterSink::new(io::writer(rt), ByteLog::new()),
         Storage {
-            vault: inputs.vault(rt, CallLog::new()),
+            vault: inputs.vault(rt, past()),
             keeper,
         },
         &mut chance,
