@@ -85,7 +85,7 @@ def real_mount_cases():
 
 def main(words):
     # What is started here has the system's own answer to signals, also where this was begun with some ignored.
-    for it in (signal.SIGINT, signal.SIGHUP):
+    for it in (signal.SIGINT, signal.SIGHUP, signal.SIGQUIT):
         signal.signal(it, signal.default_int_handler if it == signal.SIGINT else signal.SIG_DFL)
     programs = programs_here()
     if words[:1] == ["--program"]:
