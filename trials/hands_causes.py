@@ -6,9 +6,10 @@ from hands_asking import OUT, line, modelled, updated, wants
 from hands_tree import Terminal, has, require, same
 
 
-def ends(tree, status, text):
-    """Has the program end so."""
-    tree.write(f"{OUT}/cryfs", f"#!/bin/sh\nread -r line\necho 'cryfs: {text}' >&2\nexit {status}\n", 0o755)
+def ends(tree, status, text, answer=""):
+    """Has the program end so, behind an answer."""
+    told = f"echo '{answer}'; " if answer else ""
+    tree.write(f"{OUT}/cryfs", f"#!/bin/sh\nread -r line\n{told}echo 'cryfs: {text}' >&2\nexit {status}\n", 0o755)
 
 
 def errors_of(tree, *words, given=b"pw\n"):
@@ -30,7 +31,7 @@ def a_pipe_gets_a_line_of_causes(tree):
     os.mkdir(f"{tree.top}/b")
     for status, text, words, told in ((3, "configuration does not open", ("ls", "/"), "the password is another one: give the right password; or `cryfs.config` was changed"),
                                       (7, "local state fault", ("ls", "/"), "STATE refused a call: disk full"),
-                                      (13, "copy refused", ("import", "f", "/2026"), "`import`, `export` or `put` met what is there already"),
+                                      (13, "copy refused", ("import", "f", "/2026"), "`import` met what is there, where the output says"),
                                       (5, "integrity violation", ("export", "f", "/"), "STATE is an older copy, where the output says `ahead-version`: put back"),
                                       (6, "block directory fault", ("check", "--quiet"), "BLOCKS refused a call")):
         ends(tree, status, text)
@@ -40,7 +41,10 @@ def a_pipe_gets_a_line_of_causes(tree):
     ends(tree, 13, "copy refused")
     has(errors_of(tree, "b", "s", "import", "f", "/2026")[0], "; or `import`, `put` or `update` found no directory", ": `mkdir` /2026 first")
     has(errors_of(tree, "b", "s", "put", "/2026/a")[0], ": `mkdir` /2026 first")
-    has(seen_of(tree, "b", "s", "import", "f", "/2026"), "where the output says `no-entry`: `mkdir` /2026 first, or name another")
+    ends(tree, 13, "copy refused", "error no-entry /2026/a")
+    seen = seen_of(tree, "b", "s", "import", "f", "/2026")
+    has(seen, "where the output says `no-entry`: `mkdir` /2026 first, or name another")
+    require("cryfs: or " not in seen, f"one cause alone: {seen}")
     tree.write(f"{OUT}/cryfs", "#!/bin/sh\nread -r line\nkill -KILL $$\n", 0o755)
     same(errors_of(tree, "b", "s", "info"), ["cryfs: `kill -9` stopped it, or the system for want of memory: remove what a copy left, and run again; "
                                              "lines after the last sync may be lost"], "a program that the system killed")
@@ -87,7 +91,7 @@ def an_import_is_told_what_goes_on(tree):
     found = errors_of(tree, "b", "s", "import", "f/a", "/")[0]
     require(found.startswith("cryfs: `import` copies folders, and FOLDER is a file: `put` PATH <FILE copies one"), found)
     seen = seen_of(tree, "b", "s", "import", "f", "/")
-    has(seen, "`update FOLDER PATH --leave-out` goes on from there", "--leave-out, or move it away")
+    has(seen, "`update FOLDER PATH --leave-out` goes on")
     require("is a file" not in seen, seen)
     ends(tree, 14, "copy stopped")
     has(errors_of(tree, "b", "s", "import", "f", "/")[0], goes_on)

@@ -49,7 +49,10 @@ def a_check_names_the_owner_of_each_block(tree):
     same(contents(f"{tree.top}/b", f"{tree.top}/s"), before, "what a check leaves")
     status, seen = asks(tree, "check").end()
     same(status, 0, "at a terminal")
-    has(seen, f"check yes {len(ids)}\r\n")
+    has(seen, f"check yes: all {len(ids)} blocks in ", "/a/b c/f\r\n")
+    short = f"check yes {len(ids)}\n"
+    for words in ((), ("--all",)):
+        same(tree.run("b", "s", "check", *words, "--quiet", given=b"pw\n"), (0, short, ""), "a short one")
 
 
 def a_check_names_strange_files(tree):

@@ -137,12 +137,13 @@ def a_status_is_explained_for_its_command(tree):
     kept(tree).write("f", "x")
     for command, number, text, told, untold in (
             ("get", 13, "copy refused", "`get` found no file at PATH", "the output names it"),
-            ("put", 13, "copy refused", "`import`, `export` or `put` met what is there already: the output names it", "`get`"),
+            ("put", 13, "copy refused", "`put` met what is there, where the output says `exists`: `rm` it first", "`get`"),
             ("put", 8, "input fault", "`put` couldn't read the file to its end, and may have left a part: `rm` PATH", "`get`"),
             ("put", 3, "configuration does not open", "`put` took the file's first line for the password", "`get`"),
             ("get", 3, "configuration does not open", "the password is another one", "`put`"),
             ("get", 8, "input fault", "the input, the clock or the random bytes failed", "`put`")):
-        tree.write(f"{OUT}/cryfs", f"#!/bin/sh\ncat >/dev/null\necho 'cryfs: {text}' >&2\nexit {number}\n", 0o755)
+        answer = "echo error exists /f; " if (command, number) == ("put", 13) else ""
+        tree.write(f"{OUT}/cryfs", f"#!/bin/sh\ncat >/dev/null\n{answer}echo 'cryfs: {text}' >&2\nexit {number}\n", 0o755)
         terminal = Terminal(tree, "-c", f"./cryfs --password-file pw b s {command} /f <f", script="/bin/sh")
         status, seen = terminal.end()
         same((status, told in seen, untold in seen), (number, True, False), f"{command} {number}: {seen}")

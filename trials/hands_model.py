@@ -12,6 +12,7 @@ one, whose only block's version rises with each run that changed something. Besi
     history  where it is there, the rows behind each of them, which it writes itself"""
 import json
 import os
+import re
 import struct
 import subprocess
 import sys
@@ -49,7 +50,7 @@ def bytes_of(word):
     """What a word stands for."""
     raw, found, at = os.fsencode(word), b"", 0
     while at < len(raw):
-        is_escape = raw[at : at + 2] == b"\\x"
+        is_escape = re.match(rb"\\x[0-9a-fA-F]{2}", raw[at : at + 4])
         found += bytes.fromhex(raw[at + 2 : at + 4].decode()) if is_escape else raw[at : at + 1]
         at += 4 if is_escape else 1
     return found
@@ -166,10 +167,14 @@ class Run:
                 self.status = 5 if text.startswith("violation ") else 0
                 return text
         word, *words = line.split(" ")
+        words = [escaped(bytes_of(it)) if it.startswith("/") else it for it in words]
         try:
             return (getattr(self.rows, word)(*words) or "ok") if word in LINES else "error bad-line"
         except Wrong as why:
             return f"error {why}"
+        except TypeError:
+            # (another number of words)
+            return "error bad-line"
 
     def tell_rows(self):
         """Writes the rows as they are now, where that is wanted."""

@@ -59,7 +59,7 @@ def the_password_comes_from_where_it_is_told(tree):
     same(tree.run("b", "s", "rm", "-r", "/1", given=b"pw"), (0, "removed 0 1 0\n", ""), "a line without its end")
     status, seen = asks(tree, "rm", "-r", "/2").end()
     same(status, 0, seen)
-    has(seen, "\r\nremoved 0 1 0\r\n")
+    has(seen, "\r\nremoved 1 file in ")
     status, seen = asks(tree, "rm", "-r", "/2").end()
     same(status, 13, seen)
     has(seen, "error no-entry /2\r\n", "cryfs: removal refused\r\ncryfs: `rm` -r found nothing at PATH")

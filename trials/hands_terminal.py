@@ -316,8 +316,8 @@ def a_status_is_explained(tree):
                 terminal.answer("New password: ", "pw")
                 terminal.answer("New password again: ", "pw")
             status, seen = terminal.end()
-            wanted = [f"{row[2]}: {row[3]}" for row in rows if row[:2] == (number, text) and
-                      "ends in" not in row[2] and not row[2].startswith(("`export`", "`create`", "`check`", "`import`", "`put`", "`get`", "`migrate`", "`update`", "`rm`", "`passwd`" if words == "info" else "none"))]
+            wanted = [f"{row[2]}: {row[3]}" for row in rows if row[:2] == (number, text) and "ends in" not in row[2] and
+                      "FOLDER isn't there" not in row[2] and not row[2].startswith(("`ls`", "`export`", "`create`", "`check`", "`import`", "`put`", "`get`", "`migrate`", "`update`", "`rm`", "`passwd`" if words == "info" else "none"))]
             wanted = [f"cryfs: {'or ' if it else ''}{line}" for it, line in enumerate(wanted)]
             same((status, seen.strip().split("\r\n")), (int(number), [f"cryfs: {text}", *wanted]), "what is seen")
         same(tree.run("b", "s", "info", given=b"pw\n"), (int(number), "", f"cryfs: {text}\n"), "in a pipe")
@@ -375,16 +375,16 @@ def info_tells_which_formats_are_taken(tree):
 
 def a_copy_is_seen_as_it_goes_on(tree):
     tree.built("#!/bin/sh\nread -r line\n[ -t 2 ] && printf '\\rcryfs: 1 files\\033[K' >&2\nread -r line <wait\necho >&2\n"
-               "echo 'cryfs: copy refused' >&2\nexit 13\n")
+               "echo 'error not-empty /'; echo 'cryfs: copy refused' >&2\nexit 13\n")
     os.mkfifo(f"{tree.top}/wait")
     terminal = Terminal(tree, "b", "s", "export", "f", "/")
     terminal.answer("Password: ", "pw")
     terminal.expect("\rcryfs: 1 files\x1b[K")
     tree.write("wait", "on\n")
     status, seen = terminal.end()
-    wanted = [f"{row[2]}: {row[3]}" for row in tree.status_rows() if row[0] == "13" and "`export`" in row[2]]
+    wanted = [f"{row[2]}: {row[3]}" for row in tree.status_rows() if row[0] == "13" and "`export`" in row[2] and "`not-empty`" in row[2]]
     wanted = ["cryfs: copy refused", *(f"cryfs: {'or ' if it else ''}{line}" for it, line in enumerate(wanted))]
-    same((status, seen.strip().split("\r\n")), (13, wanted), "what is seen")
+    same((status, seen.strip().split("\r\n")), (13, ["error not-empty /", *wanted]), "what is seen")
     status, _, errors = tree.run("-c", "echo on >wait & echo pw | ./cryfs b s export f /", script="/bin/sh")
     same((status, errors), (13, "\ncryfs: copy refused\n"), "in a pipe")
 

@@ -150,7 +150,7 @@ def a_terminal_sees_how_far_an_update_is(tree):
     terminal.expect("\rcryfs: 0 files, ")
     status, seen = terminal.end()
     same(status, 0, seen)
-    has(seen, f"\x1b[Kupdated 0 1 0 {200 << 20}\r\n")
+    has(seen, "\x1b[Kupdated 1 file, 210 MB in ")
     terminal = asks(tree, "update", "f", "/none")
     status, seen = terminal.end()
     same(status, 13, seen)

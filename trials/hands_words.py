@@ -207,7 +207,7 @@ def using_has_the_table_of_statuses(tree):
     page = open(f"{TOP}/docs/USING.md", encoding="utf-8").read()
     rows = [f"| {number} | {f'`{text}` ' if text else ''}| {cause} | {remedy} |" for number, text, cause, remedy in tree.status_rows()]
     same([line for line in page.splitlines() if re.match(r"\| \d+ \| (`|\|)", line)], rows, "the rows of the page")
-    require(page.count("\n") <= 271, "more than 271 lines")
+    require(page.count("\n") <= 300, "more than 300 lines")
     help_text = " ".join(tree.run("--help")[1].split())
     for _, text, cause, remedy in tree.status_rows():
         has(help_text, text, f"{cause}: {remedy}")

@@ -1,15 +1,21 @@
-"""A session whose lines the wrapper asks itself, for what no line does: `rm -r`, `update`."""
+"""A session whose lines the wrapper asks itself, for what no line does: `rm -r`, `update`, `ls -l` and other lists."""
 import os
+import select
 import signal
 import time
 
 import telling
-from lines import OUTPUT_FAULT, Session
+from lines import Session
 from running import end, read_whole, shown, wait
+from showing import OUTPUT_FAULT
 
 # How an answer begins that refuses a line.
 ERROR = b"error "
 OK = [b"ok"]
+# The answer of a path that is no directory.
+NO_DIRECTORY = b"error not-directory"
+# Bytes that a pipe which takes any takes at once. So many are made ready of lines.
+TAKEN_AT_ONCE = select.PIPE_BUF
 
 
 class Stopped(Exception):
@@ -42,6 +48,32 @@ class Asker(Session):
             raise Stopped
         return answer
 
+    def ask_ahead(self, lines):
+        """The answer of each line, which change nothing and have answers of one line. They are given before those in front of them are answered."""
+        lines, ready, asked, start = iter(lines), b"", 0, b""
+        while True:
+            while len(ready) < TAKEN_AT_ONCE and (line := next(lines, None)) is not None:
+                ready, asked = ready + line + b"\n", asked + 1
+            if not asked:
+                return
+            can_take, can_give, _ = select.select([self.answers], [self.input] if ready else [], [])
+            if can_take:
+                came = self.take()
+                if not came or self.is_to_end():
+                    raise Stopped
+                *whole, start = (start + came).split(b"\n")
+                asked -= len(whole)
+                yield from whole
+            if can_give:
+                ready = ready[self.give(ready[:TAKEN_AT_ONCE]) :]
+
+    def give(self, piece):
+        """Gives lines on, and tells how many bytes were taken: all where the program has ended, as its answers tell."""
+        try:
+            return os.write(self.input, piece)
+        except OSError:
+            return len(piece)
+
     def is_to_end(self):
         """Whether a signal came, and nothing is under way that has to be whole."""
         return self.signals and not self.is_held
@@ -63,6 +95,20 @@ class Asker(Session):
         answer = self.change(line)
         if answer != OK:
             self.fail(answer[0], path)
+
+    def stat(self, path):
+        """What `stat` answers of a row that has to be there."""
+        answer = self.ask(b"stat " + path)[0]
+        if not answer.startswith(b"stat "):
+            self.fail(answer, path)
+        return answer
+
+    def rows_in(self, path):
+        """The rows of what has to be a directory."""
+        rows = self.rows(path)
+        if isinstance(rows, bytes):
+            self.fail(rows, path)
+        return rows
 
     def rows(self, path):
         """The rows of a directory, each its kind and its name as it is printed; the answer where it is none."""
@@ -111,9 +157,9 @@ class Asker(Session):
 
     def told(self, line, status=0, text=None, own=0):
         """Prints the line in which it ended, where there is one; the status, which is its own where the program's tells nothing."""
-        line = line and line + b"\n"
+        shown_lines = b"".join(self.showing.line(it) for it in line.split(b"\n")) if line else b""
         try:
-            telling.write_whole(self.output, line)
+            telling.write_whole(self.output, shown_lines)
         except OSError:
             text, own = "output fault", OUTPUT_FAULT
         if status == 0 and text:
@@ -124,8 +170,3 @@ class Asker(Session):
 def joined(path, name):
     """The path of a row in a directory."""
     return (b"" if path == b"/" else path) + b"/" + name
-
-
-def written(word):
-    """A path as a word of a line: a newline in it would end the line, and others would be seen in an answer."""
-    return b"".join(bytes([it]) if it >= 0x20 and it != 0x7F else b"\\x%02x" % it for it in os.fsencode(word))

@@ -4,16 +4,18 @@ import select
 import signal
 import sys
 import termios
+import threading
 
 import running
 import telling
+import typed
 from passwords import TERMINAL_LINE
+from showing import OUTPUT_FAULT, Showing
 from telling import say
 
 PROMPT = "cryfs> "
-# The program's statuses where its input couldn't be read, and where an answer couldn't be written.
+# The program's status where its input couldn't be read.
 INPUT_FAULT = 8
-OUTPUT_FAULT = 9
 VIOLATION = b"violation "
 # More bytes than a line has that tells how many rows follow.
 LIST_LINE = 32
@@ -40,7 +42,7 @@ class Session:
                                      (signal.SIGINT, signal.SIGHUP))
         os.close(given)
         os.close(taken)
-        self.call, self.signals, self.at_prompt = call, [], False
+        self.call, self.showing, self.signals, self.at_prompt = call, Showing(call), [], False
         self.ended = self.lost = False
         # What is edited is shown by the file 1; answers go where that was.
         self.output = os.dup(1)
@@ -61,18 +63,21 @@ class Session:
             raise Interrupted
 
     def answer(self, lines, shown=True):
-        """Gives lines on whose last one is answered, and passes its answer on to its end."""
+        """Gives lines on whose last one is answered, and passes its answer on to its end, or gives it where it isn't to be shown."""
         try:
             telling.write_whole(self.input, lines)
         except OSError:
-            return self.drain()
-        left, start, more = 1, b"", None
+            self.drain()
+            return b""
+        left, start, more, unshown = 1, b"", None, []
         while left > 0:
             came = self.take()
             if not came:
-                return None
+                break
             if shown:
                 self.show(came)
+            else:
+                unshown.append(came)
             left -= came.count(b"\n")
             if more is None:
                 start += came[:LIST_LINE]
@@ -80,7 +85,7 @@ class Session:
                 left += more or 0
                 if start.startswith(VIOLATION):
                     self.call.said = os.fsdecode(start)
-        return None
+        return b"".join(unshown)
 
     def take(self):
         """What the program answers next; nothing where it ended."""
@@ -91,7 +96,7 @@ class Session:
     def show(self, came):
         """Passes an answer on. Where nobody takes it the program is told so at its next one."""
         try:
-            telling.write_whole(self.output, came)
+            telling.write_whole(self.output, self.showing.take(came))
         except OSError:
             os.close(self.answers)
             self.ended = self.lost = True
@@ -126,13 +131,13 @@ def lines_behind(start):
 
 def typed_line(read):
     """The next line that is typed, without its newline; None at the end."""
-    typed = b""
-    while not typed.endswith(b"\n"):
+    line = b""
+    while not line.endswith(b"\n"):
         piece = read()
         if not piece:
-            return typed or None
-        typed += piece
-    return typed[:-1]
+            return line or None
+        line += piece
+    return line[:-1]
 
 
 def next_line(session, edits):
@@ -152,7 +157,7 @@ def next_line(session, edits):
         session.at_prompt = False
 
 
-def edits_lines():
+def edits_lines(session):
     """Whether lines can be edited, with those before them at hand. These are in memory alone: nothing that was typed is kept."""
     if os.environ.get("TERM", "dumb") == "dumb" or not os.isatty(2):
         return False
@@ -163,6 +168,7 @@ def edits_lines():
     # (a paste of several lines is several lines)
     readline.parse_and_bind("set enable-bracketed-paste off")
     sys.stdin.reconfigure(encoding="utf-8", errors="surrogateescape")
+    typed.complete_paths(session)
     give_back_at_stops(readline.get_line_buffer)
     return True
 
@@ -199,9 +205,12 @@ def run_typed(program, call, first):
     session = Session(program, call, first)
     if not session.ended:
         say(BANNER + (KEPT if call.takes_password() else NOT_KEPT))
-    edits = edits_lines()
+    edits = edits_lines(session)
     while not session.ended and not session.signals:
         line = next_line(session, edits)
+        if line is None and not session.signals and os.isatty(2):
+            # (what is shown next begins a line)
+            os.write(2, b"\n")
         if line is None or line.strip() in (b"exit", b"quit"):
             break
         if line.strip() == b"help":
@@ -209,7 +218,7 @@ def run_typed(program, call, first):
         elif len(line) >= TERMINAL_LINE:
             say(CUT)
         elif line:
-            session.answer(line + b"\n")
+            session.answer((typed.exact_line(line) if call.takes_plain() else line) + b"\n")
     session.close()
 
 
@@ -219,11 +228,14 @@ def run_behind(program, call, first):
     # Its other end is the program's alone, so that it ends with the program.
     lives, held = running.pipe()
     os.set_inheritable(held, True)
-    errors = running.in_memory()
-    process = running.start(program, call.words(), {0: given, 2: errors}, ends_with_this=True)
+    errors, output = running.in_memory(), running.output_of(call)
+    process = running.start(program, call.words(), {0: given, 2: errors, **output.streams()}, ends_with_this=True)
     os.close(given)
     os.close(held)
+    output.begin()
     ended = running.hold_open(process, lives)
+    passing = threading.Thread(target=output.drain)
+    passing.start()
     for it in (signal.SIGTERM, signal.SIGHUP):
         signal.signal(it, lambda number, _: os.kill(process, number))
     signal.signal(signal.SIGINT, signal.SIG_IGN)
@@ -235,7 +247,9 @@ def run_behind(program, call, first):
     os.close(into)
     running.let_end(ended)
     status = running.wait(process)
-    running.end(status if is_whole or not call.takes_bytes() else INPUT_FAULT, running.read_whole(errors), call)
+    passing.join()
+    is_cut = call.takes_bytes() and not is_whole
+    running.end(*output.ended(INPUT_FAULT if is_cut else status, running.read_whole(errors)), call)
 
 
 def hand_on(first, into, lives):

@@ -3,7 +3,7 @@ import os
 import signal
 import termios
 
-from telling import USAGE, Refused
+from telling import USAGE, Refused, named
 
 # The most bytes of a password's line that the program takes.
 LIMIT = 1048576
@@ -131,7 +131,7 @@ def read_file(path):
         with open(path, "rb") as file:
             return file.read(LIMIT + 2)
     except OSError as why:
-        raise Refused(f"the password can't be read: {why}") from None
+        raise Refused(f"the password's file {named(path)} can't be read: {why.strerror}") from None
 
 
 def read_command(words):

@@ -1,8 +1,7 @@
 """Removes a tree by the lines of one session: `ls`, `rm` and `rmdir`, what is below a directory before it."""
-from asking import Asker, joined, written
+from asking import NO_DIRECTORY, Asker, joined
+from names import written
 
-# The answer of a path that is no directory.
-NO_DIRECTORY = b"error not-directory"
 KINDS = (b"d", b"f", b"l")
 
 
@@ -21,13 +20,6 @@ class Removal(Asker):
         self.removed[kind] += 1
         self.tell(f"{sum(self.removed.values())} removed")
 
-    def left_in(self, path):
-        """The rows of a directory below which all goes."""
-        rows = self.rows(path)
-        if isinstance(rows, bytes):
-            self.fail(rows, path)
-        return rows
-
     def remove_tree(self, path, rows):
         """Removes a directory, which has these rows, and all below it."""
         # The directories that are being emptied, each with the rows that are left in it: the last one first, since removing
@@ -41,7 +33,7 @@ class Removal(Asker):
                 open_ones.pop()
             elif kind == b"d":
                 below = joined(above, name)
-                open_ones.append((below, reversed(self.left_in(below))))
+                open_ones.append((below, reversed(self.rows_in(below))))
             else:
                 self.remove_row(kind, joined(above, name))
 
@@ -50,10 +42,7 @@ class Removal(Asker):
         rows = self.rows(path)
         if rows == NO_DIRECTORY:
             # (a file or a link, or a name below one)
-            answer = self.ask(b"stat " + path)
-            if not answer[0].startswith(b"stat "):
-                self.fail(answer[0], path)
-            self.remove_row(answer[0][5:6], path)
+            self.remove_row(self.stat(path)[5:6], path)
         elif isinstance(rows, bytes):
             self.fail(rows, path)
         else:

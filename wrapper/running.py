@@ -9,12 +9,15 @@ import looking
 import state_copy
 import telling
 from passwords import die_of
+from showing import Output, Showing
 from telling import Refused, say
 
 # PR_SET_PDEATHSIG of prctl(2), which stays over exec.
 SIGNAL_AT_PARENTS_END = 1
 # The program's status after a violation.
 VIOLATION = 5
+# What clears the rest of a terminal's line.
+CLEARS = b"\x1b[K"
 # So many causes are told in a pipe.
 CAUSES_IN_PIPES = 2
 
@@ -120,9 +123,14 @@ def wait(process):
     return -os.WTERMSIG(status) if os.WIFSIGNALED(status) else os.WEXITSTATUS(status)
 
 
-def start_below(program, call, given, errors):
+def output_of(call):
+    """The way of the answers."""
+    return Output(Showing(call), pipe)
+
+
+def start_below(program, call, given, errors, output):
     """The process of the program, with signals handed on to it."""
-    streams = {2: errors} if given is None else {0: in_memory(given), 2: errors}
+    streams = {2: errors, **output.streams()} if given is None else {0: in_memory(given), 2: errors, **output.streams()}
     process = start(program, call.words(), streams, ends_with_this=True)
     # An interrupt reaches both by the terminal; what is sent to this process alone is handed on.
     for it in (signal.SIGINT, signal.SIGQUIT):
@@ -136,10 +144,13 @@ def run_below(program, call, given):
     """Runs the program, passes on what it says as it comes, and ends as it did. Where a person looks on it says how far it is."""
     is_watched = os.isatty(2) and call.tells_how_far()
     side, errors = terminal() if is_watched else pipe()
-    process = start_below(program, call, given, errors)
+    output = output_of(call)
+    process = start_below(program, call, given, errors, output)
     os.close(errors)
-    last = handed_on(side, not is_watched)
-    end(wait(process), last, call, is_shown=is_watched)
+    output.begin()
+    last, is_shown = handed_on(side, is_watched, output)
+    status, told = output.ended(wait(process), last)
+    end(status, told, call, is_shown=is_shown and told is last)
 
 
 def terminal():
@@ -149,23 +160,34 @@ def terminal():
     return side, errors
 
 
-def handed_on(side, holds_last):
-    """Passes on to standard error what comes out until the program has ended, and gives the last of it; a last line may be held back."""
+def handed_on(side, is_watched, output):
+    """Passes on to standard error what comes out until the program has ended, and gives the last of it, and whether that was passed on: a last
+    line is held back, so that it stands behind all answers. Answers that come by a pipe are passed on beside that."""
     held = passed = b""
-    while piece := came_out(side):
+    while piece := came_out(side, output):
         held += piece
-        cut = start_of_last(held) if holds_last else len(held)
+        cut = start_of_last(held) if not is_watched else start_of_line(held)
         shown(held[:cut])
         held, passed = held[cut:], (passed + held[:cut])[-4096:]
-    return held if holds_last else passed
+    return (held, False) if held or not is_watched else (passed, True)
 
 
-def came_out(side):
-    """What came out next; nothing at the end."""
+def start_of_line(held):
+    """Where the last line begins, behind what clears a line that is written over; the end of what tells how far it is."""
+    return max(start_of_last(held), held.rfind(CLEARS) + len(CLEARS) if CLEARS in held else 0) if held.endswith(b"\n") else len(held)
+
+
+def came_out(side, output):
+    """What came out next; nothing at the end, behind the last answer."""
+    while output.is_open and side not in select.select([side, output.answers], [], [])[0]:
+        output.take()
     try:
-        return os.read(side, 65536)
+        piece = os.read(side, 65536)
     except OSError:
-        return b""
+        piece = b""
+    if not piece:
+        output.drain()
+    return piece
 
 
 def start_of_last(lines):
@@ -229,8 +251,8 @@ def told_lines(status, text, call, at_terminal):
 def known_of(status, call):
     """What is known of the folders and words behind a run."""
     facts = [telling.RETURN] if call.has_return else []
-    if call.command == "import" and os.path.isfile(call.rest[1]):
-        facts.append(telling.A_FILE)
+    if call.copies():
+        facts += [telling.A_FILE] * os.path.isfile(call.rest[1]) + [telling.NO_FOLDER] * (not os.path.lexists(call.rest[1]))
     mark = telling.mark_met(call.was_marked, looking.is_marked(call.state)) if status == VIOLATION else None
     return telling.Known(looking.is_used(status, call), mark, facts, call.said, call.directory())
 

@@ -2,6 +2,8 @@
 import os
 import re
 
+from names import HOST, plain
+
 HERE = os.path.dirname(os.path.abspath(__file__))
 USAGE = 1
 # What the wrapper ends with where the program wasn't run; the program's own statuses are 0 to 14.
@@ -10,9 +12,10 @@ NOT_RUN = 125
 ANOTHER_RUN = "another run uses "
 # What causes say of the record's mark: that it was there before the run, that the run made it, that there is none.
 EARLIER_MARK, MADE_MARK, NO_MARK = MARKS = "marked by an earlier run", "and STATE is marked", "isn't marked"
-# What causes say of words and folders, which are none where that doesn't hold, and of the output.
-RETURN, A_FILE = FACTS = "ends in `\\r`", "FOLDER is a file"
-SIGN = re.compile("where the output says `([a-z-]+)`")
+# What causes say of words and folders, which are none where that doesn't hold. The last two leave no other cause.
+RETURN, A_FILE, NO_FOLDER = FACTS = "ends in `\\r`", "FOLDER is a file", "FOLDER isn't there"
+# What they say of the output: one word of several.
+SIGN = re.compile("where the output says ((?:`[a-z-]+`(?: or )?)+)")
 # What a new file system's owner has to know first.
 STATE_MATTERS = ("Without STATE nothing opens, password or not. Copy it after each run that writes, to another trusted place; "
                  "an older copy doesn't open newer blocks.")
@@ -33,20 +36,15 @@ def write_whole(file, text):
         left = left[os.write(file, left) :]
 
 
-def plain(text):
-    """The text with `\\x` and two digits for each byte of what a terminal doesn't show as it stands, as a line's end or what sets a colour."""
-    return "".join(it if it == " " or it.isprintable() else "".join(f"\\x{byte:02x}" for byte in os.fsencode(it)) for it in text)
-
-
 def named(path):
     """A path of this machine as lines tell it: it may hold any bytes, and is told so that no two look the same."""
-    return plain(os.fsdecode(path).replace("\\", "\\x5c"))
+    return plain(os.fsdecode(path).replace("\\", "\\x5c"), HOST)
 
 
 def say(text):
     """A line to standard error, which may be closed or full."""
     try:
-        write_whole(2, os.fsencode(f"cryfs: {plain(str(text))}\n"))
+        write_whole(2, os.fsencode(f"cryfs: {plain(str(text), HOST)}\n"))
     except OSError:
         pass
 
@@ -71,15 +69,17 @@ class Known:
 
     def is_cause(self, cause):
         """Whether a cause may be one. Where it is known whether another run uses the folder, that cause stands alone, or not there."""
-        signs = SIGN.findall(cause)
+        signs = [re.findall("[a-z-]+", it.replace(" or ", " ")) for it in SIGN.findall(cause)]
         return (self.is_used in (None, cause.startswith(ANOTHER_RUN)) and (self.mark is None or fits(cause, self.mark)) and
-                all(it in self.facts for it in FACTS if it in cause) and (self.said is None or all(it in self.said for it in signs)))
+                all(it in self.facts for it in FACTS if it in cause) and (self.said is None or all(any(it in self.said for it in words) for words in signs)))
 
 
 def meanings(status, text, command, known):
     """What the table says of a status, negative for a signal, and the text that the program printed, in a line for each cause."""
     rows = [row for row in status_rows() if row[0] == str(status if status >= 0 else 128 - status) and row[1] in ("", text)]
     rows = [row for row in rows if command in (commands_of(row[2]) or [command]) and known.is_cause(row[2])]
+    for it in (A_FILE, NO_FOLDER):
+        rows = [row for row in rows if it in row[2]] or rows
     if status < 0:
         # (what stopped it is told of a command by itself)
         rows = [row for row in rows if commands_of(row[2])] or rows

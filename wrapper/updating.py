@@ -9,8 +9,9 @@ The folder may change meanwhile. What has gone, or was exchanged for something e
 import os
 
 import host_folder
-from asking import OK, joined, written
+from asking import OK, joined
 from host_folder import Exchanged, kind_of, place_of
+from names import escaped, written
 from removing import KINDS, Removal
 from telling import USAGE, named, say
 
@@ -24,11 +25,6 @@ MAKES = {b"d": b"mkdir ", b"f": b"write ", b"l": b"symlink "}
 GOES_ON = "--leave-out goes on without it"
 HOST_FAULT = ("host folder fault", 12)
 NANO = 10**9
-
-
-def escaped(name):
-    """Bytes as a word of a line, and as answers print them."""
-    return b"".join(bytes([it]) if 0x21 <= it <= 0x7E and it != 0x5C else b"\\x%02x" % it for it in name)
 
 
 def moment(nanos):
@@ -91,7 +87,7 @@ class Update(Removal):
 
     def rows_at(self, path):
         """The kinds of the rows of a directory by their names."""
-        return dict(reversed(it) for it in self.left_in(path))
+        return dict(reversed(it) for it in self.rows_in(path))
 
     def update_directory(self, folder, path, rows, found):
         """Brings one directory, which has these rows, to what was found in the folder, and gives those below it: each its name here, its numbers,
@@ -128,7 +124,7 @@ class Update(Removal):
     def remove_one(self, kind, path):
         """Removes a row, a directory with all below it."""
         if kind == b"d":
-            self.remove_tree(path, self.left_in(path))
+            self.remove_tree(path, self.rows_in(path))
         else:
             self.remove_row(kind, path)
 
@@ -162,7 +158,7 @@ class Update(Removal):
             self.have(line, path)
         else:
             self.note(b"remove ", path)
-            for below, name in reversed(self.left_in(path) if there == b"d" else []):
+            for below, name in reversed(self.rows_in(path) if there == b"d" else []):
                 self.remove_one(below, joined(path, name))
             self.exchange(line, path)
             self.remove_row(there, joined(self.beside, ASIDE))
@@ -285,7 +281,7 @@ class Update(Removal):
         rows = self.rows_at(self.beside)
         if any(it not in (DRAFT, ASIDE) for it in rows) or rows.get(DRAFT) == b"d":
             return False
-        return rows.get(ASIDE) != b"d" or not self.left_in(joined(self.beside, ASIDE))
+        return rows.get(ASIDE) != b"d" or not self.rows_in(joined(self.beside, ASIDE))
 
     def refuse(self, why):
         """Ends it as words that aren't taken."""

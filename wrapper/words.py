@@ -1,7 +1,10 @@
 """What the words of a call ask for, and why some are refused before anything is run."""
 import os
+import shlex
+import sys
 
 from looking import RECORD, is_marked
+from names import readable, word_of
 from telling import USAGE, Refused, line_forms, named
 
 # The words of each line, as help shows them.
@@ -9,9 +12,11 @@ LINES = line_forms()
 COPIES = ("import", "export", "update")
 FILES = ("put", "get")
 MOUNT = "mount"
-COMMANDS = ("create", "info", "passwd", "migrate", "check", "shell", MOUNT, *COPIES, *FILES, "generate", "trial", *LINES)
+# Words of the wrapper's own that list a tree, and the options of each, which stand before PATH.
+LISTS = {"ls": "lR", "tree": "", "du": "s"}
+COMMANDS = ("create", "info", "passwd", "migrate", "check", "shell", MOUNT, *COPIES, *FILES, "generate", "trial", *LINES, "tree", "du")
 # Commands that change nothing in the tree.
-LOOKS = ("info", "check", "export", "get", "ls", "stat", "read", "readlink")
+LOOKS = ("info", "check", "export", "get", "stat", "read", "readlink", *LISTS)
 CREATE_OPTIONS = ("--blocksize", "--scrypt-n", "--scrypt-r", "--scrypt-p")
 # Words that may stand behind those of a command.
 LATE_OPTIONS = {"import": ("--quiet", "--leave-out"), "export": ("--quiet",), "update": ("--quiet", "--leave-out", "--delete", "--delete-all", "--dry-run"),
@@ -20,13 +25,19 @@ LATE_OPTIONS = {"import": ("--quiet", "--leave-out"), "export": ("--quiet",), "u
 WHOLE = "-r"
 PASSWORD_OPTIONS = ("--password-file", "--password-command")
 STATE_COPY = "--state-copy"
+# How names stand in words and answers: as people read and type them, or as lines have them.
+NAMES, PLAIN, EXACT = "--names", "plain", "exact"
+# Has an answer that is no reply end with a status of its own.
+STRICT = "--strict"
+OR_PLAIN = f"; or give {NAMES}={PLAIN} before BLOCKS"
 
 
 class Call:
     """A call: the two folders, the command and its words, where the password comes from, and where STATE's record is copied to."""
 
     def __init__(self, words, environment):
-        self.source = self.was_marked = self.state_copy = None
+        self.source = self.was_marked = self.state_copy = self.names = None
+        self.is_strict = bool(environment.get("CRYFS_STRICT"))
         # Whether the password's line ends as those of Windows do, and how the answer began that ended a session, where that is seen.
         self.has_return, self.said = False, None
         # Whether STATE is made by this run.
@@ -34,18 +45,28 @@ class Call:
         left = self.take_options(list(words))
         self.blocks, self.state, self.rest = split_folders(left, environment)
         self.command = self.rest[0]
+        if self.takes_plain():
+            self.rest = exact(self.rest)
         check_command(self.rest)
+        if self.takes_plain() and self.is_line():
+            # (in a script the program answers them)
+            check_paths(self.rest)
         for it, what in ((self.source, "takes no password"), (self.state_copy, "changes no STATE")):
             if it and not self.takes_password():
                 raise Refused(f"{self.command} {what}", USAGE)
         copy = self.state_copy or environment.get("CRYFS_STATE_COPY")
         self.state_copy = (copy.rstrip("/") or "/") if copy and self.takes_password() else None
+        if not self.source and environment.get("CRYFS_PASSWORD_FILE") and self.takes_password():
+            self.source = PASSWORD_OPTIONS[0], environment["CRYFS_PASSWORD_FILE"]
 
     def take_options(self, words):
-        """The words after those that say where the password comes from, and where the record is copied to."""
+        """The words after those that say how it is run, as where the password comes from."""
         while words and words[0].startswith("--"):
             name, mark, value = words.pop(0).partition("=")
-            if name not in (*PASSWORD_OPTIONS, STATE_COPY):
+            if name == STRICT and not mark:
+                self.is_strict = True
+                continue
+            if name not in (*PASSWORD_OPTIONS, STATE_COPY, NAMES):
                 raise Refused(f"no option {name}: see cryfs --help", USAGE)
             if not mark and not words:
                 raise Refused(f"{name} needs a word after it", USAGE)
@@ -53,7 +74,11 @@ class Call:
         return words
 
     def take_option(self, name, value):
-        if name == STATE_COPY:
+        if name == NAMES:
+            if self.names or value not in (PLAIN, EXACT):
+                raise Refused(f"{name} stands once, with {PLAIN} or {EXACT} after it", USAGE)
+            self.names = value
+        elif name == STATE_COPY:
             if self.state_copy or not value:
                 raise Refused(f"{name} stands once, with a folder after it", USAGE)
             self.state_copy = value
@@ -64,6 +89,34 @@ class Call:
 
     def takes_password(self):
         return self.command != "trial"
+
+    def takes_plain(self):
+        """Whether its paths may be typed as people write them. Such a word that lines take too is the same there."""
+        return self.names == PLAIN or (self.names is None and any(map(os.isatty, (0, 1))))
+
+    def shows_plain(self):
+        """Whether names are shown as people read them."""
+        return self.names == PLAIN or (self.names is None and os.isatty(1) and sys.getfilesystemencoding() == "utf-8")
+
+    def answers_names(self):
+        """Whether the program's answers may have names in them."""
+        return self.is_line() or self.takes_lines() or self.command in ("import", "export", "put", "check")
+
+    def counts_in_words(self):
+        """Whether a person looks on, and gets counts in words."""
+        return os.isatty(1) and (self.command in (*COPIES, "put", "check", "migrate") or self.removes_tree())
+
+    def copies(self):
+        """Whether a folder of this machine is one of its words, which is copied or filled."""
+        return self.command in COPIES
+
+    def is_brief(self):
+        """Whether a check tells of no block that is as it has to be."""
+        return self.command == "check" and "--quiet" in self.rest
+
+    def is_line(self):
+        """Whether the program answers one line for it."""
+        return self.command in LINES and not self.asks_lines()
 
     def tells_how_far(self):
         """Whether it may take long, and says how far it is as it goes on."""
@@ -107,9 +160,13 @@ class Call:
         """The program that it is for, by its crate."""
         return "cryfs_mount" if self.mounts() else "cryfs"
 
+    def lists(self):
+        """Whether it lists a tree by words of the wrapper's own."""
+        return is_list(self.rest)
+
     def asks_lines(self):
         """Whether the wrapper asks the lines of a session for it."""
-        return self.removes_tree() or self.updates()
+        return self.removes_tree() or self.updates() or self.lists()
 
     def looks(self):
         """Whether it changes nothing in the tree."""
@@ -139,9 +196,11 @@ class Call:
         return [self.blocks, self.state, *(["shell"] if self.asks_lines() else self.rest)]
 
     def directory(self):
-        """The directory that a copy needs, as its words name it."""
-        path = self.rest[2] if self.command in COPIES else self.rest[1] if self.command == "put" else ""
-        return (path if self.command != "put" else path.rpartition("/")[0]) or "PATH"
+        """The directory that a copy needs, as a person types it."""
+        path = self.rest[2] if self.command in COPIES else self.rest[1].rpartition("/")[0] if self.command == "put" else ""
+        if not path:
+            return "PATH"
+        return shlex.quote(os.fsdecode(readable(os.fsencode(path)))) if self.shows_plain() else path
 
     def check_folders(self):
         """Refuses folders that would give the record to whoever holds the blocks, and a record that isn't there."""
@@ -186,6 +245,29 @@ def split_folders(words, environment):
     return words[0], words[1], words[2:]
 
 
+def is_list(words):
+    """Whether they are words by which the wrapper lists a tree, and no line of the program's."""
+    return words[0] in LISTS and (words[0] not in LINES or len(words) > 2 and words[1].startswith("-"))
+
+
+def places(words, kinds):
+    """Where words stand that are paths of the file system, or of other kinds of what a line's form names."""
+    command = words[0]
+    if command in COPIES or words[:2] == ["rm", WHOLE]:
+        return [2]
+    if command in FILES:
+        return [1]
+    if is_list(words):
+        return [len(words) - 1] if len(words) > 1 else []
+    return [at for at, it in enumerate(LINES.get(command, "").split()) if it in kinds]
+
+
+def exact(words):
+    """The same words with each path and target as lines have it."""
+    at = places(words, ("PATH", "TARGET"))
+    return [word_of(it) if number in at else it for number, it in enumerate(words)]
+
+
 def is_number(text, digits):
     return text.isascii() and text.isdigit() and len(text) <= digits
 
@@ -203,6 +285,8 @@ def check_command(words):
         check_late(command, more[1:] if more[:1] == ["--all"] else more)
     if command == "rm" and more[:1] == [WHOLE]:
         check_whole(more[1:])
+    elif is_list(words):
+        check_list(command, more)
     elif command in LINES:
         check_line(LINES[command], more)
     if command in COPIES:
@@ -220,7 +304,22 @@ def check_command(words):
 def check_line(form, words):
     """Refuses words that the program would call a bad line by their number, an empty one, and a space in one."""
     if len(words) != len(form.split()) - 1 or not all(words) or " " in "".join(words):
-        raise Refused(f"the words are {form}, none of them empty; a space in one is \\x20, quoted: '/my\\x20film'", USAGE)
+        raise Refused(f"the words are {form}, none of them empty; a space in one is \\x20, quoted: '/my\\x20film'{OR_PLAIN}", USAGE)
+
+
+def check_paths(words):
+    """Refuses paths of a line that the program would call invalid."""
+    for at in places(words, ("PATH",)):
+        check_path(words[at])
+
+
+def check_list(command, words):
+    """Refuses what isn't options that the command has, and one path."""
+    options, known = words[:-1], LISTS[command]
+    if not words or any(it[:1] != "-" or not it[1:] or set(it[1:]) - set(known) for it in options):
+        forms = " ".join(f"[-{it}]" for it in known)
+        raise Refused(f"the words are {' '.join(filter(None, (command, forms, 'PATH')))}: a directory or file of the file system", USAGE)
+    check_path(words[-1])
 
 
 def check_count(words, form):
@@ -276,12 +375,13 @@ def check_whole(words):
 
 def check_path(word):
     """Refuses what isn't a path of the file system, but for its escapes, and a space in one."""
+    shown = f"'{readable(os.fsencode(word)).decode()}'"
     if not word.startswith("/"):
-        raise Refused(f"{word!r} is no path of the file system: it begins with /, which alone is its root", USAGE)
+        raise Refused(f"{shown} is no path of the file system: it begins with /, which alone is its root", USAGE)
     if " " in word:
-        raise Refused(f"{word!r} has a space, which a path of the file system has as \\x20, quoted: '/my\\x20film'", USAGE)
+        raise Refused(f"{shown} has a space, which a path of the file system has as \\x20, quoted: '/my\\x20film'{OR_PLAIN}", USAGE)
     if word != "/" and any(name in ("", ".", "..") for name in word.split("/")[1:]):
-        raise Refused(f"{word!r} is no path of the file system: names stand between single /, none of them . or .., and no / ends it", USAGE)
+        raise Refused(f"{shown} is no path of the file system: names stand between single /, none of them . or .., and no / ends it", USAGE)
 
 
 def check_create(words):
