@@ -3,7 +3,7 @@ import os
 import shutil
 import time
 
-from hands_tree import LIMIT, RT, has, require, same, wait_until
+from hands_tree import LIMIT, RT, has, needs, require, same, wait_until
 
 CHANGED = "the sources have changed"
 
@@ -223,13 +223,36 @@ def installs_and_removes(tree):
     has(tree.run("--help", script=script)[1], "BLOCKS", "--blocksize", f"More: {prefix}/share/doc/sergunad/USING.md")
     has(tree.run("--version", script=script)[1], "built of the sources ")
     require(os.path.exists(f"{prefix}/share/doc/sergunad/USING.md"), "no help")
+    completion = f"{prefix}/share/bash-completion/completions/cryfs"
+    same(open(completion).read(), open(f"{prefix}/lib/sergunad/wrapper/completion.bash").read(), "the words for bash")
+    with open(completion, "w") as file:
+        file.write("another's")
     for name in ("crates", "tools", "build", "wrapper", "cryfs"):
         os.rename(f"{tree.top}/old.{name}", f"{tree.top}/{name}")
     same(tree.build("--install", prefix)[0], 0, "over what is there")
+    same(open(completion).read(), "another's", "another's words for bash")
     os.remove(script)
     tree.write("some where/bin/cryfs", "another's")
     has(tree.build("--install", prefix)[2], "isn't ours")
     same(tree.read("some where/bin/cryfs"), "another's", "what was there")
+
+
+def the_tab_key_of_bash_knows_the_words(tree):
+    needs("/bin/bash")
+    import words
+    os.makedirs(f"{tree.top}/photos")
+    late = " ".join(words.LATE_OPTIONS["update"])
+    for typed, wanted in (('""', "photos"), ("--n", "--names"), ("--names = ''", "plain exact"), ("--strict --password-file crates.t", "crates.txt"),
+                          ("b s ''", " ".join(words.COMMANDS)), ("b s mk", "mkdir mkfile"), ("--names plain b s imp", "import"), ("b s import pho", "photos"),
+                          ("b s update photos / --", late), ("b s create --blo", "--blocksize"), ("b s check --", "--all --quiet"), ("b s get ''", "")):
+        script = f"source wrapper/completion.bash; compopt() {{ :; }}; COMP_WORDS=(cryfs {typed}); COMP_CWORD=$((${{#COMP_WORDS[@]}} - 1)); _cryfs; echo ${{COMPREPLY[*]}}"
+        status, out, errors = tree.run("-c", script, script="/bin/bash")
+        same((status, errors), (0, ""), typed)
+        found = [it for it in out.split() if it in ("photos", "crates.txt") or not os.path.exists(f"{tree.top}/{it}")]
+        same(sorted(found), sorted(wanted.split()), typed)
+    tree.exported = {"CRYFS_BLOCKS": "b", "CRYFS_STATE": "s"}
+    script = "source wrapper/completion.bash; compopt() { :; }; COMP_WORDS=(cryfs ls -); COMP_CWORD=2; _cryfs; echo ${COMPREPLY[*]}"
+    same(tree.run("-c", script, script="/bin/bash"), (0, "-l -R -lR\n", ""), "with the folders in the environment")
 
 
 def links_work_from_any_folder(tree):
@@ -249,4 +272,4 @@ CASES = [says_that_rt_is_missing, builds_once_and_tells, a_run_builds_nothing, n
          a_change_that_is_undone_in_the_midst_is_not_kept, a_program_of_unknown_sources_is_told, an_empty_program_is_no_program,
          what_editors_leave_is_passed_over, a_refused_proof_names_its_log, a_build_that_is_cut_off_counts_for_nothing,
          two_at_once_build_once, a_folder_that_is_not_to_be_written_is_told, words_of_the_build_are_looked_at, installs_and_removes,
-         links_work_from_any_folder]
+         the_tab_key_of_bash_knows_the_words, links_work_from_any_folder]
