@@ -185,6 +185,26 @@ def a_row_of_another_kind_is_there_until_the_new_one_is(tree):
     same(line(tree, "ls", "/"), "list 3\nf a\nd x\nf y\n", "what is there")
 
 
+def modes_and_times_are_those_here(tree):
+    modelled(tree)
+    tree.write("f/d/run", "1")
+    tree.write("f/plain", "1")
+    os.chmod(f"{tree.top}/f/d/run", 0o4751)
+    os.chmod(f"{tree.top}/f/d", 0o700)
+    os.utime(f"{tree.top}/f/d", ns=(-(10**9), 5 * 10**9 + 1))
+    same(updated(tree, "f", "/")[0], 0, "an update")
+    lines = [it for it in asked(tree) if it.partition(" ")[0] in ("mv", "mkdir", "chmod", "utime")]
+    same([it for it in lines if it.startswith("chmod")], ["chmod /.sergunad-update/new 4751", "chmod /d 700"], "modes that new rows don't have")
+    same(lines[-2:], ["chmod /d 700", "utime /d 0.000000000 5.000000001"], "a directory behind what is below it")
+    same([line(tree, "stat", it).split()[2] for it in ("/d", "/d/run", "/plain")], ["700", "4751", "644"], "what is there")
+    os.chmod(f"{tree.top}/f/plain", 0o600)
+    same(updated(tree, "f", "/"), (0, "updated 0 0 0 0\n", ""), "a mode alone")
+    same(line(tree, "stat", "/plain").split()[2], "600", "the mode")
+    asked(tree)
+    same(updated(tree, "f", "/")[0], 0, "again")
+    same([it for it in asked(tree) if it.partition(" ")[0] in ("chmod", "utime", "write")], [], "nothing changed")
+
+
 def random_rows(chance):
     """Rows of three levels, of each kind, with names that come again."""
     rows = {}
@@ -347,5 +367,5 @@ def deep_folders_are_reached(tree):
 CASES = [each_point_of_an_update_has_the_old_row_or_the_new_one, a_long_line_comes_whole_through_stops_and_signals,
          a_hang_up_that_the_caller_ignores_ends_nothing, a_folder_that_is_exchanged_is_not_followed, what_goes_or_is_exchanged_is_passed_over,
          an_alarm_at_a_link_is_told, names_are_told_without_their_escapes, a_row_of_another_kind_is_there_until_the_new_one_is,
-         an_exchange_is_whole_or_undone, rows_of_that_name_which_are_no_updates_stay, an_empty_folder_deletes_nothing_unasked,
+         modes_and_times_are_those_here, an_exchange_is_whole_or_undone, rows_of_that_name_which_are_no_updates_stay, an_empty_folder_deletes_nothing_unasked,
          a_dry_run_changes_nothing, what_cannot_be_read_is_left_out_where_that_is_asked, deep_folders_are_reached]

@@ -57,7 +57,7 @@ def bytes_of(word):
 
 
 class Rows:
-    """The rows by their paths: a directory, a file's bytes and times, a link's target."""
+    """The rows by their paths: a directory, a file's bytes, a link's target; the mode and the times."""
 
     def __init__(self, blocks):
         self.file = f"{blocks}/tree"
@@ -85,7 +85,7 @@ class Rows:
         if path in self.rows:
             raise Wrong("exists")
         self.row(path.rpartition("/")[0] or "/", "d")
-        self.rows[path] = {"times": ["0.000000000"] * 2, **row}
+        self.rows[path] = {"times": ["0.000000000"] * 2, "mode": {"d": "755", "f": "644", "l": "777"}[row["kind"]], **row}
 
     def ls(self, path):
         self.row(path, "d")
@@ -95,7 +95,7 @@ class Rows:
     def stat(self, path):
         row = self.row(path)
         size = len(row.get("hex", row.get("target", ""))) // 2
-        return f"stat {row['kind']} 644 0 0 {size} {' '.join(row['times'])} 0.000000000"
+        return f"stat {row['kind']} {row.get('mode', '755')} 0 0 {size} {' '.join(row['times'])} 0.000000000"
 
     def mkdir(self, path):
         self.make(path, {"kind": "d"})
@@ -139,6 +139,9 @@ class Rows:
 
     def utime(self, path, accessed, modified):
         self.row(path)["times"] = [accessed, modified]
+
+    def chmod(self, path, mode):
+        self.row(path)["mode"] = mode
 
     def sync(self):
         pass

@@ -7,6 +7,7 @@ then moved to its place. So a stop leaves the old file or the new one, and in a 
 
 The folder may change meanwhile. What has gone, or was exchanged for something else, is passed over and named."""
 import os
+import stat
 
 import host_folder
 from asking import OK, joined
@@ -20,6 +21,8 @@ PIECE = 500000
 # The directory, below the one that is updated, in which a file is written before it takes its place, and what it has: the file
 # or link, and what it takes the place of, where that is of another kind.
 BESIDE, DRAFT, ASIDE = b".sergunad-update", b"new", b"old"
+# The modes that a new file and a new directory have.
+MODES = {b"f": b"644", b"d": b"755"}
 # How a rehearsal tells what would be made.
 MAKES = {b"d": b"mkdir ", b"f": b"write ", b"l": b"symlink "}
 GOES_ON = "--leave-out goes on without it"
@@ -30,6 +33,11 @@ NANO = 10**9
 def moment(nanos):
     """A time as a word of a line; before 1970 there is none but the first."""
     return b"%d.%09d" % divmod(max(nanos, 0), NANO)
+
+
+def mode(numbers):
+    """A mode as a word of a line."""
+    return b"%o" % stat.S_IMODE(numbers.st_mode)
 
 
 class Update(Removal):
@@ -203,6 +211,7 @@ class Update(Removal):
             file.seek(0)
             self.begin_draft(b"mkfile ", path)
             size = self.write_file(file, path)
+        self.set_mode(self.draft, path, MODES[b"f"], numbers)
         self.set_time(self.draft, path, numbers)
         self.bytes += size
         self.end_draft(b"f", there, path)
@@ -219,19 +228,25 @@ class Update(Removal):
     def set_time(self, at, path, numbers):
         self.have(b"utime %s %s %s" % (at, moment(numbers.st_atime_ns), moment(numbers.st_mtime_ns)), path)
 
+    def set_mode(self, at, path, there, numbers):
+        """Gives a row that has this mode the mode of the row here."""
+        if there != mode(numbers):
+            self.have(b"chmod %s %s" % (at, mode(numbers)), path)
+
     def is_unchanged(self, file, numbers, path):
-        """Whether the file there has the length, and the time or the bytes, of the file here. Where it has the bytes it gets the time."""
+        """Whether the file there has the length, and the time or the bytes, of the file here. Where it has the bytes it gets the time, and in any case
+        the mode."""
         answer = self.ask(b"stat " + path)[0]
         words = answer.split(b" ")
         if words[:2] != [b"stat", b"f"]:
             self.fail(answer, path)
         if int(words[5]) != numbers.st_size:
             return False
-        if words[7] == moment(numbers.st_mtime_ns):
-            return True
-        if not self.has_bytes(file, path):
-            return False
-        self.set_time(path, path, numbers)
+        if words[7] != moment(numbers.st_mtime_ns):
+            if not self.has_bytes(file, path):
+                return False
+            self.set_time(path, path, numbers)
+        self.set_mode(path, path, words[2], numbers)
         return True
 
     def has_bytes(self, file, path):
@@ -290,11 +305,13 @@ class Update(Removal):
 
     def update_below(self, folder, path, rows, found):
         """Brings a directory and all below it to what the folder has. The folders from this one down to the one at work are open."""
-        open_ones = [(folder, iter(self.update_directory(folder, path, rows, found)))]
+        open_ones = [(folder, iter(self.update_directory(folder, path, rows, found)), None)]
         while open_ones:
-            above, left = open_ones[-1]
+            above, left, made = open_ones[-1]
             name, numbers, at, is_new = next(left, (None, None, None, None))
             if name is None:
+                if made:
+                    self.dress(*made)
                 open_ones.pop()[0].close()
                 continue
             here = self.read_here(above.path_of(name), lambda: above.folder(name, numbers))
@@ -303,7 +320,12 @@ class Update(Removal):
             found = here and self.read_here(here.path, lambda: self.entries(here))
             if found is not None:
                 rows = {} if is_new else self.rows_at(at)
-                open_ones.append((here, iter(self.update_directory(here, at, rows, found))))
+                open_ones.append((here, iter(self.update_directory(here, at, rows, found)), (at, numbers) if is_new else None))
+
+    def dress(self, path, numbers):
+        """Gives a directory that was made the mode and the time of the folder here, once all below it is there."""
+        self.set_mode(path, path, MODES[b"d"], numbers)
+        self.set_time(path, path, numbers)
 
     def updated_lines(self):
         """What it made, and below it what it removed, where that was asked."""
