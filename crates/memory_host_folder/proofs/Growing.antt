@@ -12,8 +12,8 @@ use Rattle.fs_model.specs.Step.{by_kind}
 use Rattle.fs_model.specs.Tree.{path_cmp, empty_tree, is_root, root_row, upward}
 use Rattle.fs_model.proofs.TreeLemmas.{path_total, path_exact, path_split}
 use Rattle.fs_model.proofs.PathLemmas.{not_root}
-use Rattle.host_folder.specs.Folders.{HostRow, HostPath, HostTree, IsHostTree, HasTarget, directory_row}
-use Rattle.host_folder.proofs.Inserts.{here, other}
+use Rattle.host_attributes.specs.host_folder.Folders.{HostRow, HostPath, HostTree, IsHostTree, HasTarget, directory_row}
+use Rattle.host_attributes.proofs.host_folder_lemmas.Inserts.{here, other}
 use Rattle.memory_host_folder.specs.States.{is_file, is_folder, make_fails}
 use Rattle.memory_host_folder.specs.Told.{told_by}
 use Rattle.memory_host_folder.proofs.Turned.{get_told, told_insert, host_in}

@@ -10,8 +10,8 @@ use Rattle.fs_model.specs.declared.reply.ListRow.{ListRow}
 use Rattle.fs_model.specs.Step.{list_row}
 use Rattle.fs_model.specs.Tree.{Path, Row, Tree, name_cmp, path_cmp, same_path, upward, children}
 use Rattle.fs_model.proofs.TreeLemmas.{path_total, path_exact, path_split, path_same, apart}
-use Rattle.host_folder.specs.Folders.{HostRow, HostPath, row_pair, kind_in}
-use Rattle.host_folder.proofs.Listings.{row_kind, rows_each as listed_each}
+use Rattle.host_attributes.specs.host_folder.Folders.{HostRow, HostPath, row_pair, kind_in}
+use Rattle.host_attributes.proofs.host_folder_lemmas.Listings.{row_kind, rows_each as listed_each}
 use Rattle.memory_host_folder.specs.Told.{host_row, turned, told_by}
 
 abbrev pub host_in : Option Row → Option HostRow

@@ -12,11 +12,14 @@ use Rattle.outside.specs.declared.vault.GetFail.{GetFail}
 use Rattle.outside.specs.declared.vault.GetFail.TheVariants.{Memory, Failed}
 use Rattle.fs_model.specs.declared.limits.TheConstants.{MAX_ENTRIES}
 use Rattle.fs_model.specs.Step.{by_kind}
-use Rattle.fs_model.specs.Tree.{Tree, upward, parent, is_root, directory_size}
-use Rattle.host_folder.specs.Folders.{HostRow, HostPath, HostTree, directory_row}
+use Rattle.fs_model.specs.Codes.{tree_code}
+use Rattle.fs_model.specs.Tree.{Tree, upward, parent, is_root, directory_size, empty_tree}
+use Rattle.host_attributes.specs.host_folder.Folders.{HostRow, HostPath, HostTree, directory_row}
 use Rattle.memory_host_folder.specs.Told.{told_by, host_tree_code}
 
 pub record FolderState : Type 0 where
+  -- the rows with their attributes, and the tree that their kinds and bytes are
+  pub rows : Tree
   pub tree : HostTree
   -- the numbers of the calls that fail, and how many calls there were since that was set
   pub failing : List ℕ
@@ -25,10 +28,10 @@ pub record FolderState : Type 0 where
 
 abbrev pub folder_code : Coded FolderState
 folder_code =
-    code_by (HostTree × (List ℕ × (ℕ × ℕ)))
-    (coded× host_tree_code (coded× (coded_list coded_ℕ) (coded× coded_ℕ coded_ℕ)))
-    (λ s. (s.tree, (s.failing, (s.calls, s.faults))))
-    (λ p. record { tree = p.0; failing = p.1.0; calls = p.1.1.0; faults = p.1.1.1 })
+    code_by (Tree × (HostTree × (List ℕ × (ℕ × ℕ))))
+    (coded× tree_code (coded× host_tree_code (coded× (coded_list coded_ℕ) (coded× coded_ℕ coded_ℕ))))
+    (λ s. (s.rows, (s.tree, (s.failing, (s.calls, s.faults)))))
+    (λ p. record { rows = p.0; tree = p.1.0; failing = p.1.1.0; calls = p.1.1.1.0; faults = p.1.1.1.1 })
     (λ _. refl)
 
 -- whether the next call is made to fail
@@ -72,15 +75,16 @@ is_failed (Ok x) = false
 is_failed (Err Memory) = false
 is_failed (Err Failed) = true
 
--- with another tree
-abbrev pub with_tree : FolderState → HostTree → FolderState
-with_tree s t = record s { tree = t }
+-- with other rows
+abbrev pub with_rows : FolderState → Tree → HostTree → FolderState
+with_rows s rows t = record s { rows = rows; tree = t }
 
--- the tree and what is set stay, and a call was counted
+-- the rows and what is set stay, and a call was counted
 pub record OnlyCounts (old new : FolderState) : Type 0 where
   pub same : Some new.tree ≡ Some old.tree
+  pub rows : Some new.rows ≡ Some old.rows
   pub counts : (new.failing ≡ old.failing) × (new.calls ≡ one_more old.calls)
 
 -- the root alone, and no call
 abbrev pub none_yet : FolderState
-none_yet = record { tree = insert empty [] directory_row; failing = []; calls = 0; faults = 0 }
+none_yet = record { rows = empty_tree; tree = insert empty [] directory_row; failing = []; calls = 0; faults = 0 }

@@ -6,7 +6,7 @@ use Rattle.std.specs.FinMap as finite_map
 use Rattle.fs_model.specs.declared.attr.Kind.{Kind}
 use Rattle.fs_model.specs.Codes.{kind_code}
 use Rattle.fs_model.specs.Tree.{Path, Row, Tree}
-use Rattle.host_folder.specs.Folders.{HostRow, HostPath, HostTree}
+use Rattle.host_attributes.specs.host_folder.Folders.{HostRow, HostPath, HostTree}
 
 abbrev pub host_row : Row → HostRow
 host_row row = record { kind = row.attr.kind; bytes = row.bytes }

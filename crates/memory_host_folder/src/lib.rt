@@ -2,6 +2,7 @@
 //! in folders of the host and look for there, over any folder.
 #![tactic(auto)]
 
+mod attributes;
 mod looks;
 mod memory_folder;
 mod rows;
@@ -12,4 +13,5 @@ pub use memory_folder::MemoryFolder;
 pub use rows::{Row, appends, fills_small, makes, path};
 
 // Handed on to crates above, which needn't list them.
-pub use host_folder;
+pub use host_attributes;
+pub use host_attributes::host_folder;

@@ -1,7 +1,7 @@
 // What stands in a folder.
 use crate::rows::path;
 use fs_model::Kind;
-use host_folder::Folder;
+use host_attributes::host_folder::Folder;
 use std::alloc::Global;
 
 /// Whether the rows of the folder are these, in this order, each with `d`, `f` or `l` before its name.

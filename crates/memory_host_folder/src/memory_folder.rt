@@ -4,15 +4,18 @@ ghost use Rattle.std.specs.FinMap.{get, insert};
 ghost use Rattle.outside.specs.Causes.{GetHasCause, RoseBy, one_more};
 ghost use Rattle.fs_model.specs.declared.attr.Kind.TheVariants.{Link};
 ghost use Rattle.fs_model.specs.Fitting.{is_target};
-ghost use Rattle.host_folder.specs.Folders.{IsHostTree, RowsRise, AreRowsOf, IsFileAt, IsLinkAt, IsMade, IsAppended, HasTarget};
-ghost use Rattle.memory_host_folder.specs.States.{is_listed, list_fails, read_fails, link_fails, make_fails, is_failed, with_tree, none_yet, OnlyCounts};
+ghost use Rattle.host_attributes.specs.host_folder.Folders.{IsHostTree, RowsRise, AreRowsOf, IsFileAt, IsLinkAt, IsMade, IsAppended, HasTarget};
+ghost use Rattle.host_attributes.specs.Attributes.{AreWithin, IsSet, rows_in};
+ghost use Rattle.memory_host_folder.specs.States.{is_listed, list_fails, read_fails, link_fails, make_fails, is_failed, with_rows, none_yet, OnlyCounts};
 
+use crate::attributes::{attributed_rows, dress};
 use crate::table_rows::{
     add_row, copied, copy_from, longer, root_table, row_at, rows_of, set_file,
 };
 use block_id::{Failed, Memory};
-use fs_model::{ByteText, Kind, MAX_ENTRIES, Path, RowList};
-use host_folder::Folder;
+use fs_model::{Attr, ByteText, Kind, MAX_ENTRIES, Path, RowList};
+use host_attributes::host_folder::Folder;
+use host_attributes::{Attributed, AttributedRow};
 use outside::GetFail;
 use plain_rows::Table;
 use std::alloc::Global;
@@ -34,10 +37,11 @@ impl Model for MemoryFolder {
 
     ghost coded = { folder_code };
 
-    ghost use Rattle.host_folder.specs.Folders.{IsHostTree};
+    ghost use Rattle.host_attributes.specs.host_folder.Folders.{IsHostTree};
     ghost use Rattle.memory_host_folder.specs.Told.{told_by};
 
     ghost view = { λ f. record {
+      rows = f.table;
       tree = told_by f.table;
       failing = f.failing.items;
       calls = f.calls;
@@ -80,6 +84,7 @@ impl MemoryFolder {
     /// Counts a call with its answer.
     fn count<T>(&mut self, answer: &Result<T, GetFail>)
         ensures tree { self.new.tree ≡ self.old.tree }
+        ensures rows { self.new.rows ≡ self.old.rows }
         ensures counts { (self.new.failing ≡ self.old.failing) × (self.new.calls ≡ one_more self.old.calls) }
         ensures cause { GetHasCause self.old.faults self.new.faults answer.now }
     {
@@ -96,6 +101,7 @@ impl MemoryFolder {
     /// Counts a read with its answer.
     fn count_read(&mut self, answer: &Result<usize, Failed>)
         ensures tree { self.new.tree ≡ self.old.tree }
+        ensures rows { self.new.rows ≡ self.old.rows }
         ensures counts { (self.new.failing ≡ self.old.failing) × (self.new.calls ≡ one_more self.old.calls) }
         ensures grows { self.old.faults ≤ self.new.faults }
         ensures cause { OnErr answer.now (RoseBy 1 self.old.faults self.new.faults) }
@@ -206,7 +212,8 @@ impl MemoryFolder {
     ) -> Result<(), Memory>
         requires place { make_fails self.old.tree path.now ≡ false }
         requires target { HasTarget kind target.now }
-        ensures ok { OnOk result (self.new ≡ with_tree self.old (insert self.old.tree path.now (record { kind = kind; bytes = target.now }))) }
+        ensures ok { OnOk result (self.new.tree ≡ insert self.old.tree path.now (record { kind = kind; bytes = target.now })) }
+        ensures rest { self.new ≡ with_rows self.old self.new.rows self.new.tree }
         ensures err { OnErr result (self.new ≡ self.old) }
         ensures free { get self.old.tree path.now ≡ None }
     {
@@ -235,7 +242,7 @@ impl MemoryFolder {
         ensures ok { OnOk result (IsMade (Some self.old.tree) (Some self.new.tree) path.now kind target.now) }
         ensures err { OnErr result (self.new.tree ≡ self.old.tree) }
         ensures exact { is_failed result ≡ (is_listed self.old || make_fails self.old.tree path.now) }
-        ensures rest { self.new ≡ with_tree self.old self.new.tree }
+        ensures rest { self.new ≡ with_rows self.old self.new.rows self.new.tree }
     {
         if self.is_failing() {
             return Err(GetFail::Failed);
@@ -249,12 +256,39 @@ impl MemoryFolder {
         }
     }
 
+    /// What a listing with attributes answers.
+    fn attributed(&self, alloc: Global, path: &Path) -> Result<Vec<AttributedRow>, GetFail>
+        ensures ok { IfOk result (λ rows. rows.items ≡ rows_in self.now.rows path.now) }
+        ensures within { IfOk result (λ rows. AreWithin rows.items) }
+    {
+        if self.is_failing() {
+            return Err(GetFail::Failed);
+        }
+        match self.row(path) {
+            Some((Kind::Directory, _)) => attributed_rows(alloc, &self.table, path),
+            _ => Err(GetFail::Failed),
+        }
+    }
+
+    /// What setting attributes answers.
+    fn dress_row(&mut self, alloc: Global, path: &Path, attr: Attr) -> Result<(), GetFail>
+        ensures ok { OnOk result (IsSet (Some self.old.rows) (Some self.new.rows) path.now attr) }
+        ensures err { OnErr result (self.new.rows ≡ self.old.rows) }
+        ensures tree { self.new.tree ≡ self.old.tree }
+        ensures rest { self.new ≡ with_rows self.old self.new.rows self.new.tree }
+    {
+        if self.is_failing() {
+            return Err(GetFail::Failed);
+        }
+        dress(alloc, &mut self.table, path, attr)
+    }
+
     /// What appending answers.
     fn append_row(&mut self, alloc: Global, path: &Path, bytes: &[u8]) -> Result<(), GetFail>
         ensures ok { OnOk result (IsAppended (Some self.old.tree) (Some self.new.tree) path.now bytes.now) }
         ensures err { OnErr result (self.new.tree ≡ self.old.tree) }
         ensures exact { is_failed result ≡ read_fails self.old path.now }
-        ensures rest { self.new ≡ with_tree self.old self.new.tree }
+        ensures rest { self.new ≡ with_rows self.old self.new.rows self.new.tree }
     {
         if self.is_failing() {
             return Err(GetFail::Failed);
@@ -352,6 +386,26 @@ impl Folder for MemoryFolder {
         ensures counts { (self.new.failing ≡ self.old.failing) × (self.new.calls ≡ one_more self.old.calls) }
     {
         let result = self.append_row(alloc, path, bytes);
+        self.count(&result);
+        result
+    }
+}
+
+impl Attributed for MemoryFolder {
+    ghost attributes = { λ f. Some f.rows };
+
+    fn list_attributes(
+        &mut self,
+        alloc: Global,
+        path: &Path,
+    ) -> Result<Vec<AttributedRow>, GetFail> {
+        let result = self.attributed(alloc, path);
+        self.count(&result);
+        result
+    }
+
+    fn set_attributes(&mut self, alloc: Global, path: &Path, attr: Attr) -> Result<(), GetFail> {
+        let result = self.dress_row(alloc, path, attr);
         self.count(&result);
         result
     }

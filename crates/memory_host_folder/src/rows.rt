@@ -3,7 +3,7 @@ ghost use Rattle.std.specs.Prelude.{IfSome, IsTrue};
 ghost use Rattle.fs_model.specs.Fitting.{is_target};
 
 use fs_model::{ByteText, Command, Kind, Name, Path};
-use host_folder::Folder;
+use host_attributes::host_folder::Folder;
 use std::alloc::Global;
 
 /// A row that is new: a folder, a file without bytes, or a link with this target.

@@ -3,8 +3,8 @@ ghost use Rattle.std.specs.Prelude.{◌≡◌, ◌∷◌, ◌++◌, ◌-◌, ◌
 ghost use Rattle.std.specs.Option.{option_map};
 ghost use Rattle.std.specs.FinMap.{empty, get, insert, find};
 ghost use Rattle.fs_model.specs.declared.attr.Kind.TheVariants.{File};
-ghost use Rattle.fs_model.specs.Tree.{name_cmp};
-ghost use Rattle.host_folder.specs.Folders.{HasTarget, IsHostTree, RowsRise, directory_row, row_pair, kind_in};
+ghost use Rattle.fs_model.specs.Tree.{name_cmp, empty_tree};
+ghost use Rattle.host_attributes.specs.host_folder.Folders.{HasTarget, IsHostTree, RowsRise, directory_row, row_pair, kind_in};
 ghost use Rattle.fs_model.specs.Names.{IsName};
 ghost use Rattle.memory_host_folder.specs.States.{is_file, HasPlace};
 ghost use Rattle.memory_host_folder.specs.Told.{told_by};
@@ -16,6 +16,7 @@ use std::alloc::Global;
 
 /// The root alone.
 pub fn root_table(alloc: Global) -> Table
+    ensures rows { result ≡ empty_tree }
     ensures value { told_by result ≡ insert empty [] directory_row }
     ensures tree { IsHostTree (told_by result) }
 {

@@ -2,7 +2,7 @@ use Rattle.std.proofs.Common.{◌≡◌, sym, ap, subst}
 use Rattle.std.specs.Prelude.{OnOk, OnErr, Result, Ok, Err}
 use Rattle.std.specs.FinMap.{insert}
 use Rattle.fs_model.specs.Tree.{Tree}
-use Rattle.host_folder.specs.Folders.{HostTree, IsHostTree}
+use Rattle.host_attributes.specs.host_folder.Folders.{HostTree, IsHostTree}
 use Rattle.memory_host_folder.specs.Told.{told_by}
 use Rattle.memory_host_folder.proofs.Growing.{free_there, made}
 use Rattle.memory_host_folder.proofs.Turned.{none_told, told_next}

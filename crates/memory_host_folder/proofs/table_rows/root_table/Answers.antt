@@ -1,5 +1,5 @@
 use Rattle.std.proofs.Common.{sym, ◌∙◌, ap, subst}
-use Rattle.host_folder.specs.Folders.{IsHostTree}
+use Rattle.host_attributes.specs.host_folder.Folders.{IsHostTree}
 use Rattle.memory_host_folder.specs.Told.{told_by}
 use Rattle.memory_host_folder.proofs.Growing.{told_root, root_is}
 use Rattle.memory_host_folder.proofs.table_rows.root_table.Goals as goal

@@ -1,6 +1,6 @@
 use Rattle.std.proofs.Common.{◌∙◌}
 use Rattle.fs_model.specs.Tree.{upward}
-use Rattle.host_folder.proofs.Listings.{rows_rise}
+use Rattle.host_attributes.proofs.host_folder_lemmas.Listings.{rows_rise}
 use Rattle.memory_host_folder.proofs.Turned.{rows_each}
 use Rattle.memory_host_folder.proofs.table_rows.rows_of.Goals as goal
 

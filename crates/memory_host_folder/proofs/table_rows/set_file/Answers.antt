@@ -1,7 +1,7 @@
 use Rattle.std.proofs.Common.{sym, subst}
 use Rattle.std.specs.FinMap.{get}
 use Rattle.fs_model.specs.declared.attr.Kind.TheVariants.{File}
-use Rattle.host_folder.specs.Folders.{IsHostTree}
+use Rattle.host_attributes.specs.host_folder.Folders.{IsHostTree}
 use Rattle.memory_host_folder.specs.Told.{told_by}
 use Rattle.memory_host_folder.proofs.Growing.{filled, file_named, file_there}
 use Rattle.memory_host_folder.proofs.Turned.{some_told, told_next}
