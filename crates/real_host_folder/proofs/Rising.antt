@@ -12,7 +12,7 @@ use Rattle.std.proofs.lemmas.Map.Keys.{sorted_from_all_adjacent}
 use Rattle.fs_model.specs.declared.reply.ListRow.{ListRow}
 use Rattle.fs_model.specs.Tree.{name_cmp}
 use Rattle.fs_model.proofs.TreeLemmas.{name_total}
-use Rattle.host_folder.specs.Folders.{row_pair, RowsRise}
+use Rattle.host_attributes.specs.host_folder.Folders.{row_pair, RowsRise}
 
 abbrev pub IsBelow : ListRow → ListRow → Type 0
 IsBelow row next = name_cmp row.name next.name ≡ Less

@@ -4,8 +4,10 @@ ghost use Rattle.std.specs.declared.result.Result.TheVariants.{Ok};
 ghost use Rattle.std.specs.Io.{ReadsAtMost};
 ghost use Rattle.outside.specs.Causes.{GetHasCause, RoseBy};
 ghost use Rattle.fs_model.specs.Fitting.{is_target};
-ghost use Rattle.host_folder.specs.Folders.{RowsRise};
+ghost use Rattle.host_attributes.specs.Attributes.{AreWithin};
+ghost use Rattle.host_attributes.specs.host_folder.Folders.{RowsRise};
 
+use crate::attributes::attr_of;
 use crate::error::HostError;
 use crate::listing;
 use crate::place::Place;
@@ -13,8 +15,9 @@ use crate::telling::Telling;
 use crate::text::name_text;
 use crate::way::{Access, Way};
 use block_id::Failed;
-use fs_model::{ByteText, Command, Kind, ListRow, Name, Path, RowList};
-use host_folder::Folder;
+use fs_model::{Attr, ByteText, Command, Kind, ListRow, Name, Path, RowList};
+use host_attributes::host_folder::Folder;
+use host_attributes::{Attributed, AttributedRow};
 use outside::GetFail;
 use std::alloc::Global;
 use std::fs::{self, File};
@@ -190,6 +193,32 @@ impl<'a> RealHost<'a> {
         }
     }
 
+    /// The rows with their attributes. What is left out of them was told by an earlier listing.
+    fn attributed_rows(&mut self, path: &Path) -> Result<Vec<AttributedRow>, HostError>
+        ensures within { IfOk result (λ rows. AreWithin rows.items) }
+        ensures same { self.new.faults ≡ self.old.faults }
+    {
+        self.telling.has_told = true;
+        let rows = self.rows(path)?;
+        let mut attributed = Vec::new(self.place.rt.alloc());
+        for row in &rows {
+            let found = self.way.look(self.place, &row.name)?;
+            let Some(attr) = attr_of(row.kind, &found) else {
+                return Err(HostError::Wrong("is another one now"));
+            };
+            let name = row.name.try_clone()?;
+            attributed.push(AttributedRow { name, attr })?;
+        }
+        Ok(attributed)
+    }
+
+    fn dress(&mut self, path: &Path, attr: &Attr) -> Result<(), HostError>
+        ensures same { self.new.faults ≡ self.old.faults }
+    {
+        let name = self.reach_row(path)?;
+        self.way.dress(self.place, name, attr)
+    }
+
     fn put_behind(&mut self, path: &Path, bytes: &[u8]) -> Result<(), HostError>
         ensures same { self.new.faults ≡ self.old.faults }
     {
@@ -275,6 +304,28 @@ impl Folder for RealHost<'_> {
         if answer.is_ok() {
             self.telling.progress.add(0, bytes.len() as u64);
         }
+        self.settle(path, answer)
+    }
+}
+
+impl Attributed for RealHost<'_> {
+    ghost use Rattle.real_host_folder.specs.Adapters.{host_faults};
+
+    ghost attributes = { λ _. None };
+
+    fn list_attributes(
+        &mut self,
+        alloc: Global,
+        path: &Path,
+    ) -> Result<Vec<AttributedRow>, GetFail> {
+        let _ = alloc;
+        let answer = self.attributed_rows(path);
+        self.settle(path, answer)
+    }
+
+    fn set_attributes(&mut self, alloc: Global, path: &Path, attr: Attr) -> Result<(), GetFail> {
+        let _ = alloc;
+        let answer = self.dress(path, &attr);
         self.settle(path, answer)
     }
 }

@@ -1,6 +1,7 @@
 //! A folder of this machine for a copy: read from, or filled and flushed.
 #![tactic(auto)]
 
+mod attributes;
 mod error;
 mod host;
 mod listing;
@@ -13,4 +14,5 @@ mod way;
 pub use host::RealHost;
 
 // Handed on to crates above, which needn't list them.
-pub use host_folder;
+pub use host_attributes;
+pub use host_attributes::host_folder;

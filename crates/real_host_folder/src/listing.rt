@@ -2,7 +2,7 @@
 ghost use Rattle.std.specs.Prelude.{◌≡◌, IfOk, IsTrue};
 ghost use Rattle.std.specs.declared.cmp.Ordering.TheVariants.{Less};
 ghost use Rattle.fs_model.specs.Tree.{name_cmp};
-ghost use Rattle.host_folder.specs.Folders.{RowsRise};
+ghost use Rattle.host_attributes.specs.host_folder.Folders.{RowsRise};
 
 use crate::error::HostError;
 use crate::place::{Barred, Place};

@@ -13,6 +13,8 @@ pub struct Telling<'a> {
     rt: HostRuntime,
     folder: &'a str,
     pub progress: Progress,
+    /// Whether what is left out was told already.
+    pub has_told: bool,
 }
 
 impl<'a> Telling<'a> {
@@ -21,6 +23,7 @@ impl<'a> Telling<'a> {
             rt: place.rt,
             folder: place.folder,
             progress: Progress::new(place.rt),
+            has_told: false,
         }
     }
 
@@ -46,8 +49,11 @@ impl<'a> Telling<'a> {
         }
     }
 
-    /// Says that a child is left out, since it is neither file, folder nor link.
+    /// Says that a child is left out, since it is neither file, folder nor link. Once it was told so, it isn't again.
     pub fn tell_left_out(&mut self, names: &[Name], child: &str) {
+        if self.has_told {
+            return;
+        }
         let path = ShownPath {
             folder: self.folder,
             names,

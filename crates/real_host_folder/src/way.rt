@@ -1,12 +1,13 @@
 // The folders on the way to a row, each held open, and the file that is open in the last one.
 ghost use Rattle.std.specs.Prelude.{◌≤◌, ◌<◌, length};
 
+use crate::attributes::{dress_link, dress_opened};
 use crate::error::HostError;
 use crate::place::{Numbers, Place, check_same, numbers, open_folder};
 use crate::text::{name_text, text_of};
-use fs_model::Name;
+use fs_model::{Attr, Kind, Name};
 use std::alloc::Global;
-use std::fs::{self, File, OpenOptions};
+use std::fs::{self, File, Metadata, OpenOptions};
 use std::os::fd::AsRawFd;
 use std::os::unix::fs::symlink;
 
@@ -293,6 +294,30 @@ impl Way {
         symlink(&place.rt, target, path.as_str())?;
         self.change();
         Ok(())
+    }
+
+    /// What stands under this name in the last folder: its numbers, kind, mode, owner and moments. A link isn't followed.
+    pub fn look(&self, place: Place<'_>, name: &Name) -> Result<Metadata, HostError> {
+        let path = self.path(place.rt.alloc(), name_text(name)?)?;
+        Ok(fs::symlink_metadata(&place.rt, path.as_str())?)
+    }
+
+    /// Gives what stands under this name in the last folder these attributes, as far as the system lets it. It has to be of their
+    /// kind.
+    pub fn dress(&mut self, place: Place<'_>, name: &Name, attr: &Attr) -> Result<(), HostError> {
+        self.leave_file()?;
+        let path = self.path(place.rt.alloc(), name_text(name)?)?;
+        match attr.kind {
+            Kind::Link => dress_link(place, path.as_str(), attr),
+            Kind::File => {
+                let file = open_file(place, path.as_str(), Access::Read)?;
+                dress_opened(&file, attr)
+            }
+            Kind::Directory => {
+                let (folder, _) = open_below(place, path.as_str())?;
+                dress_opened(&folder, attr)
+            }
+        }
     }
 
     fn has_open(&self, name: &Name, access: Access) -> bool {
