@@ -3,7 +3,7 @@
 #![tactic(auto)]
 
 use call_log::CallLog;
-use mount_serving::{End, Streams, serve};
+use mount_serving::{End, Served, Streams, serve};
 use program_inputs::Inputs;
 use program_inputs::real_outside::{FolderKeeper, FolderVault, ReaderSource};
 use rand_chacha::ChaCha20Rng;
@@ -106,7 +106,7 @@ fn run(rt: &HostRuntime) -> Status {
         Err(ended) => return ended.status,
     };
     tell_opened(opened);
-    let mut mounted = Mounted {
+    let mounted = Mounted {
         mount,
         chance: &mut chance,
     };
@@ -115,11 +115,11 @@ fn run(rt: &HostRuntime) -> Status {
         output: &mut rt.stdout(),
         notes: &mut rt.stderr(),
     };
-    let end = serve(rt.alloc(), &mut mounted, rt, inputs.now, streams);
+    let Served { host, end } = serve(rt.alloc(), mounted, rt, inputs.now, streams);
     let Mounted {
         mount,
         chance: _chance,
-    } = mounted;
+    } = host;
     let (lines, own) = ending_of(end);
     close(rt.alloc(), mount, lines, own).status
 }

@@ -1,1 +1,4 @@
+pub mod Asking
 pub mod Errors
+pub mod Since
+pub mod Turns

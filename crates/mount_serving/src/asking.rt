@@ -1,6 +1,10 @@
 // Commands that are asked for a request.
-ghost use Rattle.std.specs.Prelude.{◌≡◌};
-ghost use Rattle.mount_serving.specs.Errors.{error_of};
+ghost use Rattle.std.specs.Prelude.{◌≡◌, true, Ok, IfOk};
+ghost use Rattle.answers.specs.declared.answer.Answer.TheVariants.{Reply as Replied};
+ghost use Rattle.fs_model.specs.declared.command.Command.TheVariants.{Sync};
+ghost use Rattle.fs_model.specs.declared.reply.Reply.TheVariants.{Done};
+ghost use Rattle.mount_serving.specs.Asking.{AskedOne};
+ghost use Rattle.mount_serving.specs.Errors.{error_of, told_of};
 
 use crate::state::State;
 use answers::{Answer, Host};
@@ -25,6 +29,28 @@ fn number_of(error: FsError) -> ErrorNumber
     }
 }
 
+/// What an answer tells: the tree's reply, where that is no error.
+fn told(answer: Answer) -> Result<Reply, ErrorNumber>
+    ensures { result ≡ told_of answer }
+{
+    match answer {
+        Answer::Reply(Reply::Error(error)) => Err(number_of(error)),
+        Answer::Reply(reply) => Ok(reply),
+        Answer::Violation(_) | Answer::Refused => Err(ErrorNumber::BadMessage),
+        Answer::Memory => Err(ErrorNumber::NoMemory),
+        Answer::Spent | Answer::FaultDirectory | Answer::FaultState => Err(ErrorNumber::Io),
+    }
+}
+
+/// A violation is to be told.
+fn note_violation(state: &mut State, answer: &Answer)
+    ensures { state.new ≡ record state.old { violation = state.new.violation } }
+{
+    if let Answer::Violation(why) = answer {
+        state.violation = Some(*why);
+    }
+}
+
 /// The tree's reply to a command, where that is no error, or why there is none. After a violation nothing is asked.
 pub(crate) fn ask<H: Host>(
     alloc: Global,
@@ -34,6 +60,9 @@ pub(crate) fn ask<H: Host>(
 ) -> Result<Reply, ErrorNumber>
     requires ready { H.hosting.ready host.old }
     ensures ready { H.hosting.ready host.new }
+    ensures asked { AskedOne H.hosting host.old state.old.now command.now result host.new }
+    ensures refused { H.hosting.refuses host.old ≡ true → (result ≡ Err ErrorNumber.BadMessage) × (host.new ≡ host.old) }
+    ensures noted { state.new ≡ record state.old { violation = state.new.violation } }
 {
     if host.refuses() {
         return Err(ErrorNumber::BadMessage);
@@ -41,19 +70,9 @@ pub(crate) fn ask<H: Host>(
     if !command.fits() {
         return Err(ErrorNumber::Invalid);
     }
-    match host.answer(alloc, state.now, command) {
-        Answer::Reply(Reply::Error(error)) => Err(number_of(error)),
-        Answer::Reply(reply) => Ok(reply),
-        Answer::Violation(why) => {
-            state.violation = Some(why);
-            Err(ErrorNumber::BadMessage)
-        }
-        Answer::Refused => Err(ErrorNumber::BadMessage),
-        Answer::Memory => Err(ErrorNumber::NoMemory),
-        Answer::Spent => Err(ErrorNumber::Io),
-        Answer::FaultDirectory => Err(ErrorNumber::Io),
-        Answer::FaultState => Err(ErrorNumber::Io),
-    }
+    let answer = host.answer(alloc, state.now, command);
+    note_violation(state, &answer);
+    told(answer)
 }
 
 /// Asks a command that changes the tree, and notes when the first one was.
@@ -73,7 +92,7 @@ pub(crate) fn change<H: Host>(
     Ok(())
 }
 
-/// Has all that was changed kept.
+/// Has all that was changed kept. Ok only where the sync was answered Done.
 pub(crate) fn sync<H: Host>(
     alloc: Global,
     host: &mut H,
@@ -81,10 +100,16 @@ pub(crate) fn sync<H: Host>(
 ) -> Result<(), ErrorNumber>
     requires ready { H.hosting.ready host.old }
     ensures ready { H.hosting.ready host.new }
+    ensures synced { IfOk result (λ _. H.hosting.answers host.old state.old.now (Ok Sync) (Replied Done) host.new) }
+    ensures refused { H.hosting.refuses host.old ≡ true → (result ≡ Err ErrorNumber.BadMessage) × (host.new ≡ host.old) }
 {
-    let _done = ask(alloc, host, state, &Command::Sync)?;
-    state.changed = None;
-    Ok(())
+    match ask(alloc, host, state, &Command::Sync)? {
+        Reply::Done => {
+            state.changed = None;
+            Ok(())
+        }
+        _ => Err(ErrorNumber::Io),
+    }
 }
 
 /// The attributes of what stands at a path, and its number of bytes.

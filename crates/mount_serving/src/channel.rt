@@ -1,4 +1,7 @@
 // Requests from the kernel, and replies to it.
+ghost use Rattle.std.specs.Prelude.{◌≡◌, false};
+ghost use Rattle.std.specs.Io.KnownBytes.{Keeps};
+ghost use Rattle.mount_serving.specs.Turns.{Gives};
 
 use std::io::{Error, ErrorKind, Read, Write};
 use std::thread;
@@ -62,8 +65,11 @@ pub(crate) fn first_request<C: Clock, I: Read>(
 }
 
 /// Gives a reply in one write. False where the kernel doesn't take it. One that nobody waits for any more counts as given.
-pub(crate) fn give<O: Write>(output: &mut O, reply: &[u8]) -> bool {
-    for _ in 0..u64::MAX {
+pub(crate) fn give<O: Write>(output: &mut O, reply: &[u8]) -> bool
+    ensures given { Gives (O.contents output.old) (O.contents output.new) reply.now }
+    ensures kept { result ≡ false → Keeps (O.contents output.old) (O.contents output.new) }
+{
+    'tries: for _ in 0..u64::MAX {
         match output.write(reply) {
             Ok(_) => return true,
             Err(error) if error.kind() == ErrorKind::Interrupted => {}

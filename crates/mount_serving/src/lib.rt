@@ -16,10 +16,11 @@ mod renaming;
 mod rows;
 mod serving;
 mod setting;
+mod since;
 mod state;
 mod turns;
 
-pub use serving::{End, Streams, serve};
+pub use serving::{End, Served, Streams, serve};
 
 // Handed on to crates above, which needn't list them.
 pub use answers;

@@ -1,5 +1,6 @@
 // Requests that remove. The tree has no file without a name: one that is removed while it is open is moved to a directory of the mount's own, and
 // removed when it is closed. What a stop left there the next mount removes.
+ghost use Rattle.std.specs.Prelude.{◌≡◌, true};
 
 use crate::asking::{ask, change};
 use crate::nodes::REMOVED;
@@ -140,6 +141,7 @@ pub(crate) fn clear_removed<H: Host>(
 ) -> Result<(), ErrorNumber>
     requires ready { H.hosting.ready host.old }
     ensures ready { H.hosting.ready host.new }
+    ensures refused { H.hosting.refuses host.old ≡ true → host.new ≡ host.old }
 {
     let path = state.nodes.path(alloc, REMOVED)?;
     let Reply::Rows(rows) = ask(alloc, host, state, &Command::List(path))? else {

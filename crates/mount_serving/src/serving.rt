@@ -1,9 +1,12 @@
 // The loop: each request is answered before the next is taken.
-ghost use Rattle.std.specs.Prelude.{◌≤◌, ◌+◌, ◌<◌, IsTrue};
+ghost use Rattle.std.specs.Prelude.{◌≡◌, ◌≤◌, ◌+◌, ◌<◌, IsTrue, drop};
+ghost use Rattle.mount_serving.specs.Asking.{Went};
+ghost use Rattle.mount_serving.specs.Turns.{TellsBody, TellsError, TellsTurn};
 
 use crate::asking::sync;
 use crate::channel::{Stop, first_request, give, next_request};
 use crate::removing::clear_removed;
+use crate::since::{Asked, Since};
 use crate::state::State;
 use crate::turns::{Turn, take_turn};
 use answers::{Answer, Host, print_answer};
@@ -15,6 +18,7 @@ use fuse_messages::{
 };
 use std::alloc::Global;
 use std::io::{Read, Write};
+use std::marker::{Brand, PhantomData};
 use std::time::{Clock, SystemTime, UNIX_EPOCH};
 
 /// How serving ended.
@@ -28,6 +32,7 @@ pub enum End {
 }
 
 /// Where requests come from, replies go to, and a violation is told.
+#[derive(Drop)]
 pub struct Streams<'a, I, O, E> {
     pub input: &'a mut I,
     pub output: &'a mut O,
@@ -54,9 +59,51 @@ const NOTE_LEN: usize = 512;
 /// Seconds after a change at which it is to be kept.
 const KEPT_WITHIN: u64 = 5;
 
+/// What was served, and how serving ended.
+pub struct Served<H> {
+    pub host: H,
+    pub end: End,
+}
+
 /// Answers each request before the next is taken, until there are no more. Want of memory for a request is answered so. A change that no sync kept
 /// for 5 seconds is synced behind the reply to the next request.
 pub fn serve<H: Host, C: Clock, I: Read, O: Write, E: Write>(
+    alloc: Global,
+    host: H,
+    clock: &C,
+    now: Moment,
+    streams: Streams<'_, I, O, E>,
+) -> Served<H>
+    requires ready { H.hosting.ready host }
+    ensures ready { H.hosting.ready result.host }
+    ensures went { Went H.hosting host result.host }
+{
+    serve_since::<H, Brand, C, I, O, E>(alloc, host, clock, now, streams)
+}
+
+/// The same, where clauses know of each call what led to it.
+fn serve_since<H: Host, S: Since<H>, C: Clock, I: Read, O: Write, E: Write>(
+    alloc: Global,
+    host: H,
+    clock: &C,
+    now: Moment,
+    streams: Streams<'_, I, O, E>,
+) -> Served<H>
+    requires ready { H.hosting.ready host }
+    requires start { S.start ≡ Some host }
+    ensures ready { H.hosting.ready result.host }
+    ensures went { Went H.hosting host result.host }
+{
+    let mut asked: Asked<H, S> = Asked {
+        host,
+        since: PhantomData,
+    };
+    let end = serve_asked(alloc, &mut asked, clock, now, streams);
+    let Asked { host, since: _ } = asked;
+    Served { host, end }
+}
+
+fn serve_asked<H: Host, C: Clock, I: Read, O: Write, E: Write>(
     alloc: Global,
     host: &mut H,
     clock: &C,
@@ -152,40 +199,58 @@ fn answer<H: Host, O: Write>(
         refuse(output, &header, ErrorNumber::NoMemory);
         return None;
     }
-    match take_turn(alloc, host, state, &header, body, &mut buffers.reply) {
+    let turn = take_turn(alloc, host, state, &header, body, &mut buffers.reply);
+    give_turn(output, &header, turn, &mut buffers.reply)
+}
+
+/// Gives the reply of a turn, with the body behind the header's place. How serving ends, where it was the last one.
+fn give_turn<O: Write>(
+    output: &mut O,
+    header: &RequestHeader,
+    turn: Turn,
+    out: &mut [u8],
+) -> Option<End>
+    ensures told { TellsTurn (O.contents output.old) (O.contents output.new) header.now.unique (drop 16 out.old) turn }
+{
+    match turn {
         Turn::Silence => None,
         Turn::Done => {
-            reply(output, &header, &mut buffers.reply);
+            reply(output, header, out);
             None
         }
         Turn::Refused(error) => {
-            refuse(output, &header, error);
+            refuse(output, header, error);
             None
         }
         Turn::Last => {
-            reply(output, &header, &mut buffers.reply);
+            reply(output, header, out);
             Some(End::Unmounted)
         }
         Turn::LastRefused(error) => {
-            refuse(output, &header, error);
+            refuse(output, header, error);
             Some(End::Unmounted)
         }
     }
 }
 
 /// Gives the reply whose body was written. One that the kernel doesn't take is refused to it, so that nobody waits for it.
-fn reply<O: Write>(output: &mut O, header: &RequestHeader, out: &mut [u8]) {
+fn reply<O: Write>(output: &mut O, header: &RequestHeader, out: &mut [u8])
+    ensures { TellsBody (O.contents output.old) (O.contents output.new) header.now.unique (drop 16 out.old) }
+{
     if out.len() < REPLY_HEADER || out.len() > MOST_REPLY {
         refuse(output, header, ErrorNumber::Io);
         return;
     }
     finish_reply(out, header.unique);
-    if !give(output, out) {
-        refuse(output, header, ErrorNumber::Io);
+    if give(output, out) {
+        return;
     }
+    refuse(output, header, ErrorNumber::Io);
 }
 
-fn refuse<O: Write>(output: &mut O, header: &RequestHeader, error: ErrorNumber) {
+fn refuse<O: Write>(output: &mut O, header: &RequestHeader, error: ErrorNumber)
+    ensures { TellsError (O.contents output.old) (O.contents output.new) header.now.unique error }
+{
     let _is_given = give(output, &error_reply(header.unique, error));
 }
 

@@ -1,4 +1,9 @@
 // What each request is answered with.
+ghost use Rattle.std.specs.Prelude.{◌≡◌, true, IfOk, IsOk};
+ghost use Rattle.answers.specs.declared.answer.Answer.TheVariants.{Reply as Replied};
+ghost use Rattle.fs_model.specs.declared.command.Command.TheVariants.{Sync};
+ghost use Rattle.fs_model.specs.declared.reply.Reply.TheVariants.{Done};
+ghost use Rattle.mount_serving.specs.Turns.{IsBetween};
 
 use crate::asking::sync;
 use crate::looking::{look_up, read, read_link, tell_attributes};
@@ -33,7 +38,7 @@ pub(crate) enum Turn {
 /// many pages.
 const WANTED: u32 = 1 | 1 << 3 | 1 << 5 | 1 << 13 | 1 << 14 | 1 << 18 | 1 << 22;
 
-/// Answers a request, with its body in `out`. After a violation each is refused that isn't about beginning and ending.
+/// Answers the request with this header and body, with the reply's body in `out`.
 pub(crate) fn take_turn<H: Host>(
     alloc: Global,
     host: &mut H,
@@ -45,10 +50,28 @@ pub(crate) fn take_turn<H: Host>(
     requires ready { H.hosting.ready host.old }
     ensures ready { H.hosting.ready host.new }
 {
-    let Some(request) = read_request(header.opcode, body) else {
-        return Turn::Refused(ErrorNumber::Io);
-    };
-    match &request {
+    match read_request(header.opcode, body) {
+        Some(request) => answer_request(alloc, host, state, header, &request, out),
+        None => Turn::Refused(ErrorNumber::Io),
+    }
+}
+
+/// Answers a request. After a violation each is refused that isn't about beginning and ending, and nothing is asked.
+fn answer_request<H: Host>(
+    alloc: Global,
+    host: &mut H,
+    state: &mut State,
+    header: &RequestHeader,
+    request: &Request<'_>,
+    out: &mut Vec<u8>,
+) -> Turn
+    requires ready { H.hosting.ready host.old }
+    ensures ready { H.hosting.ready host.new }
+    ensures refused { H.hosting.refuses host.old ≡ true → IsBetween request.now → (result ≡ Turn.Refused ErrorNumber.BadMessage) × (host.new ≡ host.old) }
+    ensures last { H.hosting.refuses host.old ≡ true → request.now ≡ Request.Destroy → (result ≡ Turn.LastRefused ErrorNumber.BadMessage) × (host.new ≡ host.old) }
+    ensures synced { request.now ≡ Request.Sync → result ≡ Turn.Done → H.hosting.answers host.old state.old.now (Ok Sync) (Replied Done) host.new }
+{
+    match request {
         Request::Forget(count) => {
             state.nodes.forget(header.node, *count);
             Turn::Silence
@@ -62,11 +85,14 @@ pub(crate) fn take_turn<H: Host>(
         Request::Destroy => end_turn(alloc, host, state),
         Request::Init(major, ahead, flags) => turn_of(begin(*major, *ahead, *flags, out)),
         _ if host.refuses() => Turn::Refused(ErrorNumber::BadMessage),
-        _ => turn_of(fill(alloc, host, state, header, &request, out)),
+        _ => turn_of(fill(alloc, host, state, header, request, out)),
     }
 }
 
-fn turn_of(filled: Result<(), ErrorNumber>) -> Turn {
+fn turn_of(filled: Result<(), ErrorNumber>) -> Turn
+    ensures done { result ≡ Turn.Done → IsOk filled }
+    ensures refused { (error : ErrorNumber) → filled ≡ Err error → result ≡ Turn.Refused error }
+{
     match filled {
         Ok(()) => Turn::Done,
         Err(error) => Turn::Refused(error),
@@ -85,6 +111,7 @@ fn begin(major: u32, ahead: u32, flags: u32, out: &mut Vec<u8>) -> Result<(), Er
 fn end_turn<H: Host>(alloc: Global, host: &mut H, state: &mut State) -> Turn
     requires ready { H.hosting.ready host.old }
     ensures ready { H.hosting.ready host.new }
+    ensures refused { H.hosting.refuses host.old ≡ true → (result ≡ Turn.LastRefused ErrorNumber.BadMessage) × (host.new ≡ host.old) }
 {
     if state.has_removed {
         let _cleared = clear_removed(alloc, host, state);
@@ -117,6 +144,7 @@ fn fill<H: Host>(
 ) -> Result<(), ErrorNumber>
     requires ready { H.hosting.ready host.old }
     ensures ready { H.hosting.ready host.new }
+    ensures synced { request.now ≡ Request.Sync → IfOk result (λ _. H.hosting.answers host.old state.old.now (Ok Sync) (Replied Done) host.new) }
 {
     let node = header.node;
     match request {
@@ -158,6 +186,7 @@ fn fill_change<H: Host>(
 ) -> Result<(), ErrorNumber>
     requires ready { H.hosting.ready host.old }
     ensures ready { H.hosting.ready host.new }
+    ensures synced { request.now ≡ Request.Sync → IfOk result (λ _. H.hosting.answers host.old state.old.now (Ok Sync) (Replied Done) host.new) }
 {
     let node = header.node;
     match request {

@@ -1,4 +1,5 @@
+use Rattle.std.specs.declared.option.Option.TheVariants.{Some}
 use Rattle.mount_serving.proofs.serving.serve.Given as goal
 
-abbrev pub invariant-turns : goal.invariant-turns
-invariant-turns g l = g.H.Host.hosting.ready l.host
+abbrev pub ghosts-serve_since : goal.ghosts-serve_since
+ghosts-serve_since g a = record { start = Some a.host }
