@@ -1,5 +1,5 @@
 -- One exchange more.
-use Rattle.std.proofs.Common.{◌≡◌, ◌∙◌, false, [], ◌∷◌, refl}
+use Rattle.std.proofs.Common.{◌≡◌, ◌∙◌, false, ◌∷◌}
 use Rattle.std.specs.declared.option.Option.{Option}
 use Rattle.std.specs.declared.option.Option.TheVariants.{Some, None}
 use Rattle.std.specs.declared.result.Result.TheVariants.{Ok}
@@ -8,10 +8,7 @@ use Rattle.fs_model.specs.declared.command.Command.{Command}
 use Rattle.answers.specs.Hosts.{Hosting}
 use Rattle.answers.specs.Sessions.{is_refused}
 use Rattle.answers.specs.declared.answer.Answer.{Answer}
-use Rattle.mount_serving.specs.Asking.{Went, WentSince}
-
-pub went_nowhere : {H : Type 0} (M : Hosting H) (old : H) → Went M old old
-went_nowhere M old = record { es = []; ran = refl; served = tt; chance = refl }
+use Rattle.mount_serving.specs.Asking.{WentSince}
 
 pub went_on : {H : Type 0} (M : Hosting H) (start : Option H) (old new : H) (now : Instant) (command : Command) (answer : Answer) → WentSince M start old → M.answers old now (Ok command) answer new
     → is_refused answer ≡ false → M.chance new ≡ M.chance old → WentSince M start new

@@ -1,5 +1,5 @@
 -- What a request is answered with, and what the kernel is told of it.
-use Rattle.std.specs.Prelude.{◌≡◌, ◌⊎◌, ◌-◌, ◌^◌, ℕ, List, [], take}
+use Rattle.std.specs.Prelude.{◌⊎◌, ◌-◌, ◌^◌, ℕ, List, [], take}
 use Rattle.std.specs.declared.option.Option.{Option}
 use Rattle.std.specs.Io.KnownBytes.{Appends, Keeps}
 use Rattle.fuse_messages.specs.Layout.{reply_text}

@@ -1,4 +1,4 @@
-use Rattle.mount_serving.proofs.Given.{kept_appends, kept_is_given, kept_same, kept_then}
+use Rattle.mount_serving.proofs.Given.{kept_appends, kept_same}
 use Rattle.mount_serving.proofs.channel.give.Goals as goal
 
 pub tries-init : goal.tries-init
