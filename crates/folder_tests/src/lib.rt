@@ -13,6 +13,8 @@ mod counted_flushes;
 #[cfg(test)]
 mod files;
 #[cfg(test)]
+mod flush_helper;
+#[cfg(test)]
 mod folder_keeper;
 #[cfg(test)]
 mod folder_run;

@@ -1,14 +1,15 @@
 // Two runs over a block folder and their records, whose turns a story is.
 use crate::calls::{on_keeper, on_vault};
-use crate::counted_flushes::CountedFlushes;
+use crate::counted_flushes::{CountedFile, CountedFlushes};
 use crate::files::on_files;
-use crate::places::{Places, make_places, remove_places};
+use crate::places::{Places, make_places, place, remove_places};
 use crate::stories::{Order, Stage, play};
 use call_log::CallLog;
 use outside::Memory;
-use real_outside::{FolderKeeper, FolderRun, FolderVault};
+use real_outside::{FlushHelper, FolderKeeper, FolderRun, FolderVault};
 use std::alloc::Global;
 use std::cell::Cell;
+use std::fs::{self, File};
 use std::test::Fail;
 
 /// What the block folder and the record of each run share, and how many flushes succeed from here on.
@@ -99,6 +100,35 @@ fn begin(turns: &mut Turns<'_>, reads: bool) -> bool {
     turns.first.is_some() && turns.second.is_some()
 }
 
+/// A helper of the story's folder of this name: its answers stand in a file, and its requests go to another one, which is made.
+fn make_helper<'a>(
+    turns: &Turns<'a>,
+    folder: &str,
+    answers: &str,
+    requests: &str,
+) -> Option<FlushHelper<CountedFile<'a>>> {
+    let (rt, top) = (turns.rt, turns.places.folder.as_str());
+    let host = CountedFlushes {
+        host: rt,
+        left: &turns.shared.left,
+    };
+    let found = fs::metadata(&host, place(&rt, top, folder).ok()?).ok()?;
+    let answers = fs::open(&host, place(&rt, top, answers).ok()?).ok()?;
+    let requests = File::create_new(&host, place(&rt, top, requests).ok()?).ok()?;
+    Some(FlushHelper::new(requests, answers, &found))
+}
+
+/// Whether the first run gets a helper of the folder that the order names, whose answers stand in a file.
+fn lend(turns: &mut Turns<'_>, order: &Order<'_>) -> Option<bool> {
+    let (folder, answers) = order.subject.split_once(' ')?;
+    let helper = make_helper(turns, folder, answers, order.text)?;
+    match &mut turns.first {
+        Some(run) => run.keeper.lend(helper),
+        None => return Some(false),
+    }
+    Some(true)
+}
+
 /// Whether a call of this run answers as the order says, where it is one.
 fn on_run(alloc: Global, run: &mut Option<Begun<'_>>, order: &Order<'_>) -> Option<bool> {
     match run {
@@ -123,6 +153,7 @@ fn on_turns(turns: &mut Turns<'_>, order: &Order<'_>) -> Option<bool> {
         }
         "allows" => turns.shared.left.set(order.subject.parse().ok()?),
         "none-left" => return Some(turns.shared.left.get() == 0),
+        "lends" => return lend(turns, order),
         _ if turns.is_second => return on_run(turns.rt.alloc(), &mut turns.second, order),
         _ => return on_run(turns.rt.alloc(), &mut turns.first, order),
     }
@@ -149,6 +180,7 @@ impl Stage for Turns<'_> {
 /// | `end` | the first ends, and it is the second one's turn |
 /// | `allows 2` | from here on so many flushes succeed |
 /// | `none-left` | none of them is left |
+/// | `lends b answers: requests` | the first run gets a helper of this folder: its answers stand in a file, its requests are put into another one |
 pub fn play_runs(rt: &HostRuntime, names: &str, lines: &str) -> Result<(), Fail> {
     let names = if names.is_empty() { "b s s" } else { names };
     let places = make_places(rt, names)?;

@@ -13,9 +13,10 @@ use outside::Memory;
 use rand_chacha::ChaCha20Rng;
 use rand_core::Rng;
 use real_host_folder::RealHost;
-use real_outside::{FolderKeeper, FolderRun, FolderVault};
+use real_outside::{FlushHelper, FolderKeeper, FolderRun, FolderVault};
 use run_status::Status;
 use std::alloc::Global;
+use std::cell::Cell;
 use std::env;
 use std::fs::File;
 use std::io::ErrorKind;
@@ -31,6 +32,8 @@ pub struct Inputs {
     folder: String,
     options: Options,
     folders: FolderRun,
+    /// What flushes the blocks' files, where it was lent and no keeper has it.
+    helper: Cell<Option<FlushHelper<File>>>,
     /// What keeps files of the run from being taken for standard streams.
     closed: [Option<File>; 3],
     pub words: Vec<String>,
@@ -41,6 +44,7 @@ impl Inputs {
     /// What the system gives, and a generator of random bytes that the system's seed. The clock and those bytes are inputs:
     /// where either is refused, that is an input that failed. Words that are no text are of no known form.
     pub fn read(rt: &HostRuntime) -> Result<(Inputs, ChaCha20Rng), Status> {
+        let helper = FlushHelper::lent(rt);
         let closed = hold_closed(rt);
         let mut all = match env::args(rt) {
             Ok(all) => all,
@@ -72,7 +76,7 @@ impl Inputs {
         };
         let number = chance.next_u64();
         match Inputs::new(rt.alloc(), blocks, state, words, now, number) {
-            Ok(inputs) => Ok((inputs.holding(folder, options, closed), chance)),
+            Ok(inputs) => Ok((inputs.holding(folder, options, helper, closed), chance)),
             Err(Memory) => Err(Status::Memory),
         }
     }
@@ -95,16 +99,24 @@ impl Inputs {
             folder: String::new(alloc),
             options: no_options(),
             folders: FolderRun::new(alloc, number)?,
+            helper: Cell::new(None),
             closed: [None, None, None],
             words,
             now,
         })
     }
 
-    fn holding(self, folder: String, options: Options, closed: [Option<File>; 3]) -> Inputs {
+    fn holding(
+        self,
+        folder: String,
+        options: Options,
+        helper: Option<FlushHelper<File>>,
+        closed: [Option<File>; 3],
+    ) -> Inputs {
         Inputs {
             folder,
             options,
+            helper: Cell::new(helper),
             closed,
             ..self
         }
@@ -138,7 +150,7 @@ impl Inputs {
     }
 
     /// The record in the state folder, whose file is read only where the words need it. These choices say which saves that will
-    /// fail are kept.
+    /// fail are kept. The first one that is made gets the helper, where one was lent.
     pub fn make_keeper(
         &self,
         rt: &HostRuntime,
@@ -147,11 +159,15 @@ impl Inputs {
         ensures faults { IfOk result (λ keeper. keeper.faults ≡ 0) }
         ensures choices { IfOk result (λ keeper. keeper.choices ≡ choices.events) }
     {
-        if uses_record(rt.alloc(), &self.words)? {
-            FolderKeeper::new(rt.alloc(), *rt, &self.state, &self.folders, choices)
+        let mut keeper = if uses_record(rt.alloc(), &self.words)? {
+            FolderKeeper::new(rt.alloc(), *rt, &self.state, &self.folders, choices)?
         } else {
-            FolderKeeper::unread(rt.alloc(), *rt, &self.state, &self.folders, choices)
+            FolderKeeper::unread(rt.alloc(), *rt, &self.state, &self.folders, choices)?
+        };
+        if let Some(helper) = self.helper.replace(None) {
+            keeper.lend(helper);
         }
+        Ok(keeper)
     }
 }
 

@@ -9,6 +9,7 @@ ghost use Rattle.real_outside.specs.Faults.{CountsErrors};
 ghost use Rattle.real_outside.specs.Saves.{save_of};
 
 use crate::error::{FolderError, count};
+use crate::flush_helper::FlushHelper;
 use crate::folder_log::note_save;
 use crate::folder_run::FolderRun;
 use crate::lock::Lock;
@@ -23,7 +24,8 @@ use std::marker::Model;
 /// The record in a file of a real folder. What is kept is what the file held as this was made, where it was read then, or what
 /// was saved last since; a load finds out whether the file still holds that. A save that failed may have replaced it: the choices
 /// say whether it did, and each load after it fails. From the first load or save on no other run can load or save.
-/// A save first flushes the names of the blocks' files that this run wrote or removed, unless the record is marked.
+/// A save first flushes the names of the blocks' files that this run wrote or removed, and has a helper flush what is left to it, unless
+/// the record is marked.
 #[derive(Drop)]
 pub struct FolderKeeper<'a, R: Files> {
     run: &'a FolderRun,
@@ -86,6 +88,14 @@ where
     {
         let file = RecordFile::new(alloc, files, folder, run.ending())?;
         Ok(FolderKeeper::holding(alloc, run, file, None, choices))
+    }
+
+    /// Takes a helper. Where its folder is the block folder that the run holds, blocks' files aren't flushed one by one: a save that isn't
+    /// of a marked record asks the helper first, and fails where that doesn't answer that it flushed them.
+    pub fn lend(&mut self, helper: FlushHelper<R::File>)
+        ensures { self.new ≡ self.old }
+    {
+        self.file.lend(self.run, helper);
     }
 
     /// The record of this file, in which this was found.

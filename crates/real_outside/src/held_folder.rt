@@ -3,12 +3,12 @@ ghost use Rattle.std.specs.Prelude.{◌≤◌, length, vec_len, IfOk, IfSome};
 
 use crate::error::FolderError;
 use crate::file_names::place;
-use crate::files::{check_no_link, make_new_folder, open_folder};
+use crate::files::{device_of, make_new_folder, open_folder};
 use crate::folder_names::{names_below, untold};
 use crate::folder_run::FolderRun;
 use crate::lock::{Lock, lock_folder};
 use crate::progress::Progress;
-use crate::stored_file::StoredFile;
+use crate::stored_file::{StoredFile, Written};
 use outside::{ByteLine, FileName, MAX_NAMES};
 use std::alloc::{AllocError, Global};
 use std::fs::{self, Files, OpenFile};
@@ -58,7 +58,7 @@ where
     {
         self.hold(directory)?;
         let place = place(alloc, directory, name)?;
-        self.check_no_link(&place, name)?;
+        self.device_of(&place, name)?;
         let found = place.read(&self.files, alloc, max)?;
         self.check_held(directory)?;
         self.count_read(name);
@@ -123,26 +123,33 @@ where
         self.hold(directory)?;
         self.check_held(directory)?;
         let place = place(alloc, directory, name)?;
-        self.check_no_link(&place, name)?;
+        let device = self.device_of(&place, name)?;
         place.remove(&self.files)?;
         match name {
             FileName::Config => place.flush_folder(&self.files).map_err(FolderError::Io),
-            FileName::Block(_) => self.leave(place.folder).map_err(FolderError::Memory),
+            FileName::Block(_) => self
+                .leave(place.folder, device)
+                .map_err(FolderError::Memory),
         }
     }
 
-    /// After a block's file was removed: removes its folder where that was the last one in it, and remembers it. The flush of the
-    /// block folder tells of both.
-    fn leave(&self, folder: PathBuf) -> Result<(), AllocError> {
+    /// After a block's file was removed: removes its folder, which lies on this device, where that was the last one in it. The folder is
+    /// remembered, or left to the helper. The flush of the block folder tells of both.
+    fn leave(&self, folder: PathBuf, device: Option<u64>) -> Result<(), AllocError> {
         let _ = fs::remove_dir(&self.files, folder.as_path());
+        if self.run.has_helper() && (device.is_none() || device == self.run.device()) {
+            self.run.leave();
+            return Ok(());
+        }
         self.run.remember(folder)
     }
 
-    /// Fails where the folder of a block's file is a link. The block folder itself may be one.
-    fn check_no_link(&self, place: &StoredFile, name: &FileName) -> io::Result<()> {
+    /// The device of the folder of a block's file, where it is there. Fails where it is a link. The block folder itself may be one, and
+    /// isn't looked at.
+    fn device_of(&self, place: &StoredFile, name: &FileName) -> io::Result<Option<u64>> {
         match name {
-            FileName::Config => Ok(()),
-            FileName::Block(_) => check_no_link(&self.files, place.folder.as_path()),
+            FileName::Config => Ok(None),
+            FileName::Block(_) => device_of(&self.files, place.folder.as_path()),
         }
     }
 
@@ -154,11 +161,15 @@ where
     }
 
     /// Writes the file in place, and remembers its folder, but not where its name is known to be flushed: where it was there, after a
-    /// record was saved.
+    /// record was saved. What the helper flushes is left to it; so is what a write that failed may have made.
     fn overwrite(&self, place: StoredFile, bytes: &[u8]) -> Result<(), FolderError> {
         self.run.make_room()?;
-        let written = place.overwrite(&self.files, self.run.device(), bytes);
-        if written_over(&written) && self.run.has_saved() {
+        let has_helper = self.run.has_helper();
+        let written = place.overwrite(&self.files, self.run.device(), has_helper, bytes);
+        if has_helper {
+            self.run.leave();
+        }
+        if is_settled(&written, self.run.has_saved()) {
             return Ok(());
         }
         self.run.remember(place.folder)?;
@@ -207,7 +218,10 @@ where
     }
 }
 
-/// Whether a file that was there was written.
-fn written_over(written: &io::Result<bool>) -> bool {
-    matches!(written, Ok(false))
+/// Whether the folder of a file needn't be remembered: the helper flushes it, or the file was there, after a record was saved.
+fn is_settled(written: &io::Result<Written>, has_saved: bool) -> bool {
+    match written {
+        Ok(written) => written.is_left || (written.was_there && has_saved),
+        Err(_) => false,
+    }
 }

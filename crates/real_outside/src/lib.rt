@@ -5,6 +5,7 @@
 mod error;
 mod file_names;
 mod files;
+mod flush_helper;
 mod folder_keeper;
 mod folder_log;
 mod folder_names;
@@ -19,6 +20,7 @@ mod state_folder;
 mod stored_file;
 mod writer_sink;
 
+pub use flush_helper::FlushHelper;
 pub use folder_keeper::FolderKeeper;
 pub use folder_run::FolderRun;
 pub use folder_vault::FolderVault;
