@@ -20,6 +20,7 @@ import hands_causes
 import hands_checks
 import hands_copies
 import hands_files
+import hands_flushing
 import hands_golden
 import hands_listing
 import hands_mount
@@ -34,8 +35,8 @@ import hands_words
 from hands_tree import BUILT, Skipped, Tree, programs_here
 
 CASES = (hands_build.CASES + hands_processor.CASES + hands_words.CASES + hands_terminal.CASES + hands_files.CASES + hands_asking.CASES +
-         hands_state_copy.CASES + hands_causes.CASES + hands_names.CASES +
-         hands_listing.CASES + hands_mount.CASES)
+         hands_state_copy.CASES + hands_causes.CASES + hands_names.CASES + hands_listing.CASES + hands_flushing.CASES +
+         hands_mount.CASES)
 REAL = (hands_real.CASES + hands_golden.CASES + hands_copies.CASES + hands_files.REAL + hands_checks.CASES + hands_removing.CASES +
         hands_updating.CASES + hands_state_copy.REAL + hands_listing.REAL)
 

@@ -6,6 +6,7 @@ import sys
 import termios
 import threading
 
+import beside
 import running
 import telling
 import typed
@@ -38,8 +39,7 @@ class Session:
         self.errors = running.in_memory()
         given, self.input = running.pipe()
         self.answers, taken = running.pipe()
-        self.process = running.start(program, call.words(), {0: given, 1: taken, 2: self.errors},
-                                     (signal.SIGINT, signal.SIGHUP))
+        self.process = running.start(program, call, {0: given, 1: taken, 2: self.errors}, (signal.SIGINT, signal.SIGHUP))
         os.close(given)
         os.close(taken)
         self.call, self.showing, self.signals, self.at_prompt = call, Showing(call), [], False
@@ -226,10 +226,10 @@ def run_behind(program, call, first):
     """A session whose password comes from elsewhere, and whose lines, or whose file's bytes, are the input."""
     given, into = running.pipe()
     # Its other end is the program's alone, so that it ends with the program.
-    lives, held = running.pipe()
+    lives, held = beside.pipe()
     os.set_inheritable(held, True)
     errors, output = running.in_memory(), running.output_of(call)
-    process = running.start(program, call.words(), {0: given, 2: errors, **output.streams()}, ends_with_this=True)
+    process = running.start(program, call, {0: given, 2: errors, **output.streams()}, ends_with_this=True)
     os.close(given)
     os.close(held)
     output.begin()

@@ -6,8 +6,9 @@ import syslog
 
 import mounts
 import running
+from beside import go_beside, leave_streams, pipe
 from passwords import die_of
-from serving import Serving, go_beside, leave_streams, pipe
+from serving import Serving
 from telling import Refused, named, say
 from words import lies_within, real, same_folder
 

@@ -5,6 +5,7 @@ import signal
 import sys
 import tty
 
+import flushing
 import looking
 import state_copy
 import telling
@@ -60,16 +61,19 @@ def become(program, words, streams, ignored=()):
         raise Refused(f"the program can't be run: {why}") from None
 
 
-def start(program, words, streams, ignored=(), ends_with_this=False):
-    """The process of the program, begun below this one, and stopped where this one ends before it if that is asked."""
+def start(program, call, streams, ignored=(), ends_with_this=False):
+    """The process of the program, begun below this one, and stopped where this one ends before it if that is asked. What else it is to
+    have open here has a number above those of the files that a program is given."""
     this = os.getpid()
+    lent = flushing.lend(call.blocks) if call.writes_blocks() else {}
     process = os.fork()
     if process:
+        flushing.let_go(lent)
         return process
     try:
         if ends_with_this:
             end_with(this)
-        become(program, words, streams, ignored)
+        become(program, call.words(), {**streams, **lent}, ignored)
     except Refused as why:
         say(why)
     finally:
@@ -131,7 +135,7 @@ def output_of(call):
 def start_below(program, call, given, errors, output):
     """The process of the program, with signals handed on to it."""
     streams = {2: errors, **output.streams()} if given is None else {0: in_memory(given), 2: errors, **output.streams()}
-    process = start(program, call.words(), streams, ends_with_this=True)
+    process = start(program, call, streams, ends_with_this=True)
     # An interrupt reaches both by the terminal; what is sent to this process alone is handed on.
     for it in (signal.SIGINT, signal.SIGQUIT):
         signal.signal(it, signal.SIG_IGN)

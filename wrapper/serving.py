@@ -3,7 +3,6 @@
 It gets the kernel's descriptor and opens the file system first. Who looks at the folder meanwhile waits for that. So all here
 works on without it: no process but the ticking one looks at the folder, and none but the program has that descriptor."""
 import contextlib
-import fcntl
 import os
 import select
 import signal
@@ -11,37 +10,16 @@ import signal
 import mounts
 import running
 import telling
+from beside import ENDING, UNHEEDED, go_beside, numbered, pipe
 from telling import named, say
 from unmounting import Unmounting
 
 # A tick each so many seconds: behind one the program keeps what was changed some time before.
 TICK = 5
-ENDING = (signal.SIGINT, signal.SIGTERM, signal.SIGHUP)
-# What a terminal or the system's end sends, and the program doesn't heed: it ends with the mount. So it does where nobody hears it.
-UNHEEDED = (*ENDING, signal.SIGQUIT, signal.SIGTSTP, signal.SIGPIPE)
 # The program's descriptors of the password's line, and of what it tells when it is open: the first answer tells more. The others here
 # have greater numbers, so that none gets these.
-PASSWORD, OPENED, BESIDE = 3, 4, 10
+PASSWORD, OPENED = 3, 4
 VIOLATION = b"violation "
-
-
-def numbered(file):
-    """The same file under a number that is none of the program's own."""
-    higher = fcntl.fcntl(file, fcntl.F_DUPFD_CLOEXEC, BESIDE)
-    os.close(file)
-    return higher
-
-
-def pipe():
-    return tuple(map(numbered, os.pipe()))
-
-
-def leave_streams():
-    """Lets go of the caller's input, output and errors."""
-    nowhere = os.open(os.devnull, os.O_RDWR)
-    for it in (0, 1, 2):
-        os.dup2(nowhere, it)
-    os.close(nowhere)
 
 
 def begin_ticking(folder, lives, stood):
@@ -62,19 +40,6 @@ def begin_ticking(folder, lives, stood):
                 return
     finally:
         os._exit(0)
-
-
-def go_beside(*files):
-    """What a process does first that goes on beside this one, and behind it: it heeds no signals, and has no other files than these."""
-    signal.set_wakeup_fd(-1)
-    for it in UNHEEDED:
-        signal.signal(it, signal.SIG_IGN)
-    leave_streams()
-    for it in map(int, os.listdir("/proc/self/fd")):
-        if it > 2 and it not in files:
-            # (one of them was for the list itself)
-            with contextlib.suppress(OSError):
-                os.close(it)
 
 
 def answers(folder):
@@ -121,7 +86,8 @@ class Serving:
         os.set_inheritable(held, True)
         password, nowhere = numbered(running.in_memory(first)), numbered(os.open(os.devnull, os.O_WRONLY))
         streams = {0: device, 1: device, 2: errors, PASSWORD: password, OPENED: nowhere}
-        self.process = running.start(program, [self.call.blocks, self.call.state], streams, UNHEEDED)
+        # (it ends with the mount, and heeds no signals)
+        self.process = running.start(program, self.call, streams, UNHEEDED)
         # Held open here, they would hide the program's end from the kernel, or from this process.
         for it in (device, errors, held, password, nowhere):
             os.close(it)

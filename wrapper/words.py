@@ -15,6 +15,8 @@ MOUNT = "mount"
 # Words of the wrapper's own that list a tree, and the options of each, which stand before PATH.
 LISTS = {"ls": "lR", "tree": "", "du": "s"}
 COMMANDS = ("create", "info", "passwd", "migrate", "check", "shell", MOUNT, *COPIES, *FILES, "generate", "trial", *LINES, "tree", "du")
+# Commands that may write or remove many files of BLOCKS.
+WRITES = ("import", "update", "put", "rm", "truncate", "shell", "generate", "migrate", MOUNT)
 # Commands that change nothing in the tree.
 LOOKS = ("info", "check", "export", "get", "stat", "read", "readlink", *LISTS)
 CREATE_OPTIONS = ("--blocksize", "--scrypt-n", "--scrypt-r", "--scrypt-p")
@@ -150,6 +152,10 @@ class Call:
         """Whether a mount goes on in the background."""
         return "--background" in self.rest[2:]
 
+    def writes_blocks(self):
+        """Whether it may write or remove many files of BLOCKS."""
+        return self.command in WRITES and not self.rehearses()
+
     def make_absolute(self):
         """Gives its folders names that hold in any folder."""
         here = os.getcwd()
@@ -193,7 +199,7 @@ class Call:
 
     def words(self):
         """The words of the program."""
-        return [self.blocks, self.state, *(["shell"] if self.asks_lines() else self.rest)]
+        return [self.blocks, self.state, *(["shell"] if self.asks_lines() else [] if self.mounts() else self.rest)]
 
     def directory(self):
         """The directory that a copy needs, as a person types it."""
