@@ -76,7 +76,10 @@ impl Inputs {
         };
         let number = chance.next_u64();
         match Inputs::new(rt.alloc(), blocks, state, words, now, number) {
-            Ok(inputs) => Ok((inputs.holding(folder, options, helper, closed), chance)),
+            Ok(inputs) => {
+                inputs.helper.set(helper);
+                Ok((inputs.holding(folder, options, closed), chance))
+            }
             Err(Memory) => Err(Status::Memory),
         }
     }
@@ -106,17 +109,10 @@ impl Inputs {
         })
     }
 
-    fn holding(
-        self,
-        folder: String,
-        options: Options,
-        helper: Option<FlushHelper<File>>,
-        closed: [Option<File>; 3],
-    ) -> Inputs {
+    fn holding(self, folder: String, options: Options, closed: [Option<File>; 3]) -> Inputs {
         Inputs {
             folder,
             options,
-            helper: Cell::new(helper),
             closed,
             ..self
         }

@@ -8,7 +8,7 @@ halves : (word zeros new : List ℕ) → length word ≡ 8 → length zeros ≡ 
 halves word zeros new eight others =
     let front : take 8 (word ++ zeros) ≡ word = take_at word zeros 8 eight in
     let none : drop 8 (drop 8 (word ++ zeros)) ≡ [] =
-      drop_all 8 (drop 8 (word ++ zeros)) (omega (arith, length-drop 8 (word ++ zeros), length-append word zeros, eight, others)) in
+    drop_all 8 (drop 8 (word ++ zeros)) (omega (arith, length-drop 8 (word ++ zeros), length-append word zeros, eight, others)) in
     (λ i. front i ++ (new ++ none i)) ∙ ap (λ (l : List ℕ). word ++ l) (append-nil new)
 
 pub returns : goal.returns
