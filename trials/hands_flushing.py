@@ -2,6 +2,7 @@
 import glob
 import os
 import signal
+import subprocess
 
 import flushing
 from hands_tree import Skipped, require, same, wait_until
@@ -115,6 +116,56 @@ def a_helper_that_was_killed_is_seen(tree):
     require(out in (b"ended\n", b"Broken pipe\n"), f"{out} {errors}")
 
 
+def what_the_disk_could_not_write_is_told_once(tree):
+    if os.geteuid():
+        raise Skipped("who isn't root mounts no disk")
+    tree.write("small/f", "")
+    tree.write("disk/f", "")
+    small, disk = f"{tree.top}/small", f"{tree.top}/disk"
+    mounted(small, "-t", "tmpfs", "-o", "size=16m", "tmpfs")
+    try:
+        with open(f"{small}/image", "wb") as file:
+            file.truncate(64 << 20)
+        subprocess.run(["mkfs.ext4", "-q", f"{small}/image"], check=True)
+        mounted(disk, "-o", "loop", f"{small}/image")
+        try:
+            same([it[:4] for it in answers_on(disk)], [b"done", b"not\0", b"done"], "before files are lost, behind that, and again")
+        finally:
+            subprocess.run(["umount", disk], check=True)
+    finally:
+        subprocess.run(["umount", small], check=True)
+
+
+def mounted(folder, *words):
+    """Mounts, or skips the case."""
+    try:
+        subprocess.run(["mount", *words, folder], check=True, stderr=subprocess.DEVNULL)
+    except (OSError, subprocess.SubprocessError) as why:
+        raise Skipped(f"nothing can be mounted: {why}") from why
+
+
+def answers_on(disk):
+    """Those of a helper of a folder on a disk that has room for a part of the files alone, though it seems to have it for all."""
+    os.mkdir(f"{disk}/b")
+    lent = flushing.lend(f"{disk}/b")
+    require(lent, "no helper is lent")
+    try:
+        yield answer_of(lent, 1)
+        for number in range(1500):
+            with open(f"{disk}/b/{number}", "wb") as file:
+                file.write(os.urandom(16384))
+        yield answer_of(lent, 2)
+        yield answer_of(lent, 3)
+    finally:
+        flushing.let_go(lent)
+        wait_until(lambda: not users_of(f"{disk}/b"), "the helper is left over")
+
+
+def answer_of(lent, number):
+    os.write(lent[flushing.REQUESTS], flushing.FLUSH + number.to_bytes(8, "little"))
+    return os.read(lent[flushing.ANSWERS], 100)
+
+
 def tree_words(process):
     """The words of a process."""
     try:
@@ -125,4 +176,4 @@ def tree_words(process):
 
 
 CASES = [a_helper_is_lent_where_many_files_may_change, the_helper_answers_each_request, the_helper_ends_with_the_program,
-         a_helper_that_was_killed_is_seen]
+         a_helper_that_was_killed_is_seen, what_the_disk_could_not_write_is_told_once]
