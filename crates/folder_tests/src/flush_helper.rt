@@ -2,18 +2,24 @@
 use crate::stories::tell;
 use std::test::Fail;
 
-/// No file or folder of a block is flushed, and the helper is asked once before the next record. Of four flushes two are those
-/// of the record, and two those of the names of the folders that the run was given. A mark is saved without it.
+/// Behind four files of blocks no more are flushed, nor are their folders, and the helper is asked once before the next record. Of six
+/// flushes two are those of the record, two those of the names of the folders that the run was given, and two those of the four
+/// files' folder and of the block folder. Where no more than four are changed the helper isn't asked. A mark is saved without it.
 const LEFT: &str = "# asks once before a record | s/blocks s s
 makes s/blocks
 writes answers: done\0\0\0\0\u{1}\0\0\0\0\0\0\0done\0\0\0\0\u{2}\0\0\0\0\0\0\0
 begin
 lends s/blocks answers: requests
-allows 0
+allows 4
+puts one: 1
+puts one: 2
+puts one: 3
+puts one: 4
+none-left
 puts zeros: one
 puts tens: two
 holds requests: 
-allows 4
+allows 6
 saves: new
 none-left
 holds requests: flush\0\0\0\u{1}\0\0\0\0\0\0\0
@@ -21,6 +27,12 @@ allows 2
 saves: same
 none-left
 holds requests: flush\0\0\0\u{1}\0\0\0\0\0\0\0
+allows 4
+puts one: 1
+puts one: 2
+puts one: 3
+puts one: 4
+none-left
 puts tens: four
 deletes zeros
 allows 2
@@ -28,11 +40,36 @@ saves: newer
 none-left
 holds requests: flush\0\0\0\u{1}\0\0\0\0\0\0\0flush\0\0\0\u{2}\0\0\0\0\0\0\0
 holds s/cryfs.localstate: newer
+# flushes four files without it | s/blocks s s
+makes s/blocks
+writes answers: 
+begin
+lends s/blocks answers: requests
+allows 3
+puts one: 1
+puts zeros: one
+deletes one
+puts tens: two
+none-left
+allows 7
+saves: new
+none-left
+allows 9
+puts one: 1
+deletes tens
+puts zeros: one
+puts one: 2
+saves: newer
+holds requests: 
 # saves a mark without it | s/blocks s s
 makes s/blocks
 writes answers: 
 begin
 lends s/blocks answers: requests
+puts one: 1
+puts one: 2
+puts one: 3
+puts one: 4
 puts zeros: one
 fails-to-save: cryfs.localstate;1\0\0
 saves: cryfs.localstate;1\0\u{1}
@@ -42,7 +79,11 @@ makes other
 writes answers: 
 begin
 lends other answers: requests
-allows 2
+allows 6
+puts one: 1
+puts one: 2
+puts one: 3
+puts one: 4
 puts zeros: one
 puts tens: two
 none-left
@@ -65,6 +106,10 @@ makes s/blocks
 writes answers: done\0\0\0\0\u{1}\0\0\0\0\0\0\0
 begin
 lends s/blocks answers: requests
+puts one: 1
+puts one: 2
+puts one: 3
+puts one: 4
 puts zeros: one
 renames s/blocks: s/away
 makes s/blocks
@@ -80,6 +125,10 @@ writes answers:
 begin
 saves: old
 lends s/blocks answers: requests
+puts one: 1
+puts one: 2
+puts one: 3
+puts one: 4
 puts zeros: one
 fails-to-save: new
 fails-to-save: new
@@ -90,6 +139,10 @@ writes answers: not\0\0\0\0\0\u{1}\0\0\0\0\0\0\0done\0\0\0\0\u{2}\0\0\0\0\0\0\0d
 begin
 saves: old
 lends s/blocks answers: requests
+puts one: 1
+puts one: 2
+puts one: 3
+puts one: 4
 puts zeros: one
 fails-to-save: new
 fails-to-save: new
@@ -101,8 +154,16 @@ makes s/blocks
 writes answers: done\0\0\0\0\u{1}\0\0\0\0\0\0\0
 begin
 lends s/blocks answers: requests
+puts one: 1
+puts one: 2
+puts one: 3
+puts one: 4
 puts zeros: one
 saves: old
+puts one: 1
+puts one: 2
+puts one: 3
+puts one: 4
 puts zeros: two
 fails-to-save: new
 fails-to-save: new
@@ -112,8 +173,16 @@ makes s/blocks
 writes answers: done\0\0\0\0\u{1}\0\0\0\0\0\0\0done\0\0\0\0\u{1}\0\0\0\0\0\0\0
 begin
 lends s/blocks answers: requests
+puts one: 1
+puts one: 2
+puts one: 3
+puts one: 4
 puts zeros: one
 saves: old
+puts one: 1
+puts one: 2
+puts one: 3
+puts one: 4
 deletes zeros
 fails-to-save: new
 fails-to-save: new
@@ -124,6 +193,10 @@ writes answers: done\0\0\0\0\u{2}\0\0\0\0\0\0\0
 begin
 saves: old
 lends s/blocks answers: requests
+puts one: 1
+puts one: 2
+puts one: 3
+puts one: 4
 puts zeros: one
 fails-to-save: new
 holds s/cryfs.localstate: old
@@ -133,6 +206,10 @@ writes answers: done\0\0\0\0\u{1}\0\0\0\0\0\0\u{1}
 begin
 saves: old
 lends s/blocks answers: requests
+puts one: 1
+puts one: 2
+puts one: 3
+puts one: 4
 puts zeros: one
 fails-to-save: new
 holds s/cryfs.localstate: old
@@ -142,6 +219,10 @@ writes answers: done\0\0\0\0\u{1}\0\0
 begin
 saves: old
 lends s/blocks answers: requests
+puts one: 1
+puts one: 2
+puts one: 3
+puts one: 4
 puts zeros: one
 fails-to-save: new
 holds s/cryfs.localstate: old
@@ -151,6 +232,10 @@ writes answers: all blocks are flushed, trust me
 begin
 saves: old
 lends s/blocks answers: requests
+puts one: 1
+puts one: 2
+puts one: 3
+puts one: 4
 puts zeros: one
 fails-to-save: new
 holds s/cryfs.localstate: old
@@ -160,6 +245,10 @@ writes answers: flush\0\0\0\u{1}\0\0\0\0\0\0\0
 begin
 saves: old
 lends s/blocks answers: requests
+puts one: 1
+puts one: 2
+puts one: 3
+puts one: 4
 puts zeros: one
 fails-to-save: new
 holds s/cryfs.localstate: old

@@ -137,8 +137,10 @@ where
     /// remembered, or left to the helper. The flush of the block folder tells of both.
     fn leave(&self, folder: PathBuf, device: Option<u64>) -> Result<(), AllocError> {
         let _ = fs::remove_dir(&self.files, folder.as_path());
-        if self.run.has_helper() && (device.is_none() || device == self.run.device()) {
-            self.run.leave();
+        let is_here = device.is_none() || device == self.run.device();
+        let is_left = is_here && self.run.is_helped();
+        self.run.count(is_left);
+        if is_left {
             return Ok(());
         }
         self.run.remember(folder)
@@ -164,11 +166,9 @@ where
     /// record was saved. What the helper flushes is left to it; so is what a write that failed may have made.
     fn overwrite(&self, place: StoredFile, bytes: &[u8]) -> Result<(), FolderError> {
         self.run.make_room()?;
-        let has_helper = self.run.has_helper();
-        let written = place.overwrite(&self.files, self.run.device(), has_helper, bytes);
-        if has_helper {
-            self.run.leave();
-        }
+        let is_helped = self.run.is_helped();
+        let written = place.overwrite(&self.files, self.run.device(), is_helped, bytes);
+        self.run.count(is_helped);
         if is_settled(&written, self.run.has_saved()) {
             return Ok(());
         }
