@@ -110,7 +110,7 @@ with_block a id = record a { list = []; state = record a.state { lives = fin.ins
 
 module _ (a : Held) (id payload f file : List ℕ) (before old : List Call) (new : fin.get a.state.lives id ≡ None) (least : a.state.least ≡ 2)
          (opens : opened a.opens a.size id f ≡ Some (own a id 1 payload)) (taken : IsTaken 2 f) where
-  now : List Call
+  abbrev now : List Call
   now = put (block id) f true ∷ old
 
   knows : (q : List ℕ) → fin.get (with_block a id).state.lives q ≡ cond (same_id q id) (Some first_life) (fin.get a.state.lives q)

@@ -44,3 +44,13 @@ pub record BegunAnew (h : Held) (file : List ℕ) (before trace : List Call) : T
   pub only : (bytes : List ℕ) → was_put bytes trace ≡ true → (was_put bytes before ≡ true) ⊎ ((bytes ≡ file) ⊎ IsAnew h trace bytes)
   pub sealed : (id bytes : List ℕ) (ok : Bool) → Among trace (put (block id) bytes ok) → Among before (put (block id) bytes ok) ⊎ IsSealed h id bytes
   pub configured : last_change config trace ≡ Some (record { bytes = Some file; ok = true })
+
+-- the same, of a directory that tells its calls
+abbrev pub IsBegun : Held → List ℕ → Option (List Call) → Option (List Call) → Type 0
+IsBegun h file None now = Unit {0}
+IsBegun h file (Some before) now = (trace : List Call) × (now ≡ Some trace) × BegunAnew h file before trace
+
+-- by these calls the number of whoever holds this is new, of a directory that tells its calls
+abbrev pub HasNewClient : Held → Option (List Call) → Type 0
+HasNewClient h None = ⊥
+HasNewClient h (Some before) = IsNewClient h.opens h.size h.state.client before

@@ -2,9 +2,11 @@
 //! sound over all calls there ever were.
 #![tactic(auto)]
 
+mod beginning;
 mod law;
 mod writing;
 
+pub use beginning::{Owner, begin, finish};
 pub use law::sound_anew;
 pub use writing::renew;
 
