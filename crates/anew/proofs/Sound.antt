@@ -70,7 +70,7 @@ not_dead (Some life) all e = let lives : life.live ≡ true = ap (λ (l : Life).
 -- ---- the law
 
 module _ (h : Held) (file : List ℕ) (before trace : List Call) (alike : OpensAlike h.opens) (no_block : take 14 file ≡ magic → ⊥)
-         (client : IsNewClient h.opens h.size h.state.client before) (a : BegunAnew h file before trace) where
+    (client : IsNewClient h.opens h.size h.state.client before) (a : BegunAnew h file before trace) where
   waits_none : (id : List ℕ) → waiting h id ≡ None
   waits_none id = ap (λ (list : FileChanges). change_at (block id) list) a.none
 

@@ -89,7 +89,7 @@ begun_got h file before trace name max answer a = record {
 -- ---- a block's file
 
 -- either of two ids is the other, or both tests say that it isn't
-which : (id q : List ℕ) → (q ≡ id) ⊎ ((same_id q id ≡ false) × (bytes_eq id q ≡ false))
+pub which : (id q : List ℕ) → (q ≡ id) ⊎ ((same_id q id ≡ false) × (bytes_eq id q ≡ false))
 which id q = elim (same_id q id) as (λ b. same_id q id ≡ b → (q ≡ id) ⊎ ((same_id q id ≡ false) × (bytes_eq id q ≡ false))) [
   | true ↦ λ is. inl (same_id_is q id is)
   | false ↦ λ other. elim (bytes_eq id q) as (λ b. bytes_eq id q ≡ b → (q ≡ id) ⊎ ((same_id q id ≡ false) × (bytes_eq id q ≡ false))) [
@@ -98,7 +98,7 @@ which id q = elim (same_id q id) as (λ b. same_id q id ≡ b → (q ≡ id) ⊎
   ] refl
 ] refl
 
-itself : (id : List ℕ) → same_id id id ≡ true
+pub itself : (id : List ℕ) → same_id id id ≡ true
 itself id = ap is_eq (tied_itself nat_list_cmp_total id)
 
 put_same : (id q a b : List ℕ) (s t : Bool) → put (block id) a s ≡ put (block q) b t → (id ≡ q) × (a ≡ b)
@@ -109,7 +109,7 @@ abbrev with_block : Held → List ℕ → Held
 with_block a id = record a { list = []; state = record a.state { lives = fin.insert a.state.lives id first_life } }
 
 module _ (a : Held) (id payload f file : List ℕ) (before old : List Call) (new : fin.get a.state.lives id ≡ None) (least : a.state.least ≡ 2)
-         (opens : opened a.opens a.size id f ≡ Some (own a id 1 payload)) (taken : IsTaken 2 f) where
+    (opens : opened a.opens a.size id f ≡ Some (own a id 1 payload)) (taken : IsTaken 2 f) where
   abbrev now : List Call
   now = put (block id) f true ∷ old
 

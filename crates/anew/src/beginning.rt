@@ -34,8 +34,15 @@ pub struct Owner {
 
 /// A state that knows no block, has no mark, and takes no file of the older format.
 fn empty_state(alloc: Global, owner: &Owner) -> State
-    ensures { plain_state result ≡ record { marked = false; least = 2; fs_id = owner.now.fs_id.0; key_salt = owner.now.key_salt;
-        key_digest = owner.now.key_digest; client = owner.now.client; lives = fin.empty } }
+    ensures { plain_state result ≡ record {
+      marked = false;
+      least = 2;
+      fs_id = owner.now.fs_id.0;
+      key_salt = owner.now.key_salt;
+      key_digest = owner.now.key_digest;
+      client = owner.now.client;
+      lives = fin.empty;
+    } }
 {
     State {
         marked: false,
@@ -57,8 +64,15 @@ pub fn begin<V: Vault, C: Sealer>(
     owner: &Owner,
 ) -> Result<State, GetFail>
     requires none { sealed.old.vault.list ≡ [] }
-    ensures state { IfOk result (λ state. plain_state state ≡ record { marked = false; least = 2; fs_id = owner.now.fs_id.0; key_salt = owner.now.key_salt;
-        key_digest = owner.now.key_digest; client = owner.now.client; lives = fin.empty }) }
+    ensures state { IfOk result (λ state. plain_state state ≡ record {
+      marked = false;
+      least = 2;
+      fs_id = owner.now.fs_id.0;
+      key_salt = owner.now.key_salt;
+      key_digest = owner.now.key_digest;
+      client = owner.now.client;
+      lives = fin.empty;
+    }) }
     ensures put { IfOk result (λ state. V.trace sealed.new.vault.vault ≡ adds (V.trace sealed.old.vault.vault) (put config file.items true)) }
     ensures begun { IfOk result (λ state. IsBegun (held_of C.opens sealed.new state) file.items (V.trace sealed.old.vault.vault) (V.trace sealed.new.vault.vault)) }
     ensures none { IfOk result (λ state. sealed.new.vault.list ≡ []) }
@@ -79,10 +93,7 @@ pub fn begin<V: Vault, C: Sealer>(
 
 /// The store of what was written anew. It is sound where the client's number was new and each block that the state knows was
 /// written so, whatever was put before.
-pub fn finish<V: Vault, C: Sealer>(
-    sealed: SealedStore<V, C>,
-    state: State,
-) -> IntegrityStore<V, C>
+pub fn finish<V: Vault, C: Sealer>(sealed: SealedStore<V, C>, state: State) -> IntegrityStore<V, C>
     requires intact { IsIntact (block_size_of sealed) (C.iv_size (cipher_of sealed)) }
     requires none { sealed.vault.list ≡ [] }
     requires client { 0 < state.client }

@@ -1,7 +1,0 @@
-//! A new local record for a file system whose record is lost, of what its directory holds: each block is written anew under a new
-//! client, what was written is checked, and then its record is kept.
-#![tactic(auto)]
-
-mod keeping;
-
-pub use keeping::{Unkept, keep};
