@@ -8,7 +8,7 @@ ghost use Rattle.outside.specs.Trace.{Call, config, put, adds};
 ghost use Rattle.integrity_store.specs.Made.{IsMadeOf, IsRecordedAs};
 ghost use Rattle.integrity_store.specs.block_versions.Held.{wanted};
 ghost use Rattle.integrity_store.specs.block_versions.Views.{held_of};
-ghost use Rattle.integrity_store.specs.block_versions.local_state.Record.{plain_state};
+ghost use Rattle.integrity_store.specs.block_versions.local_state.Record.{HasRecord, plain_state};
 ghost use Rattle.integrity_store.specs.sealed_store.Stores.{IsIntact, block_size_of, cipher_of};
 ghost use Rattle.integrity_store.specs.store_api.Content.{SameContent};
 ghost use Rattle.integrity_store.specs.store_api.Holdings.{IsFew};
@@ -101,6 +101,7 @@ pub fn finish<V: Vault, C: Sealer>(sealed: SealedStore<V, C>, state: State) -> I
     requires unmarked { state.marked ≡ false }
     ensures intact { ⟦<IntegrityStore<V, C> as Blocks>⟧.meanings.intact result }
     ensures few { IsFew (⟦<IntegrityStore<V, C> as Blocks>⟧.holdings.used result) }
+    ensures has_record { HasRecord (plain_state state) [] }
     ensures made { IsMadeOf ⟦<IntegrityStore<V, C> as Blocks>⟧.meanings ⟦<IntegrityStore<V, C> as Blocks>⟧.holdings ⟦<IntegrityStore<V, C> as Durable>⟧.durables
         (held_of C.opens sealed state) (V.trace sealed.vault.vault) (V.faults sealed.vault.vault) result }
     ensures recorded { IsRecordedAs ⟦<IntegrityStore<V, C> as Durable>⟧.durables (held_of C.opens sealed state) result }
