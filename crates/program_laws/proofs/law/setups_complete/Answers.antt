@@ -9,5 +9,5 @@ returns-clause-passwd g k chance left input output vault keeper ended bytes c tr
     passwd g.V.Vault.trace g.V.Vault.faults g.K.Keeper input output vault keeper ended bytes quiet c tree finds chance left causes short changed
 
 pub returns-clause-create : goal.returns-clause-create
-returns-clause-create g k cost block_size draws input output vault keeper ended bytes created bare told short quiet =
-    create g.V.Vault.trace g.V.Vault.faults g.K.Keeper input output vault keeper ended bytes quiet cost block_size draws bare told short created
+returns-clause-create g k cost block_size chance left input output vault keeper ended bytes created bare told short quiet =
+    create g.V.Vault.trace g.V.Vault.faults g.K.Keeper input output vault keeper ended bytes quiet cost block_size chance left bare told short created
