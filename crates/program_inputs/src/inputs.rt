@@ -16,7 +16,6 @@ use real_host_folder::RealHost;
 use real_outside::{FlushHelper, FolderKeeper, FolderRun, FolderVault};
 use run_status::Status;
 use std::alloc::Global;
-use std::cell::Cell;
 use std::env;
 use std::fs::File;
 use std::io::ErrorKind;
@@ -32,8 +31,6 @@ pub struct Inputs {
     folder: String,
     options: Options,
     folders: FolderRun,
-    /// What flushes the blocks' files, where it was lent and no keeper has it.
-    helper: Cell<Option<FlushHelper<File>>>,
     /// What keeps files of the run from being taken for standard streams.
     closed: [Option<File>; 3],
     pub words: Vec<String>,
@@ -44,7 +41,6 @@ impl Inputs {
     /// What the system gives, and a generator of random bytes that the system's seed. The clock and those bytes are inputs:
     /// where either is refused, that is an input that failed. Words that are no text are of no known form.
     pub fn read(rt: &HostRuntime) -> Result<(Inputs, ChaCha20Rng), Status> {
-        let helper = FlushHelper::lent(rt);
         let closed = hold_closed(rt);
         let mut all = match env::args(rt) {
             Ok(all) => all,
@@ -76,10 +72,7 @@ impl Inputs {
         };
         let number = chance.next_u64();
         match Inputs::new(rt.alloc(), blocks, state, words, now, number) {
-            Ok(inputs) => {
-                inputs.helper.set(helper);
-                Ok((inputs.holding(folder, options, closed), chance))
-            }
+            Ok(inputs) => Ok((inputs.holding(folder, options, closed), chance)),
             Err(Memory) => Err(Status::Memory),
         }
     }
@@ -102,7 +95,6 @@ impl Inputs {
             folder: String::new(alloc),
             options: no_options(),
             folders: FolderRun::new(alloc, number)?,
-            helper: Cell::new(None),
             closed: [None, None, None],
             words,
             now,
@@ -146,7 +138,7 @@ impl Inputs {
     }
 
     /// The record in the state folder, whose file is read only where the words need it. These choices say which saves that will
-    /// fail are kept. The first one that is made gets the helper, where one was lent.
+    /// fail are kept. It gets the helper that flushes, where one was lent.
     pub fn make_keeper(
         &self,
         rt: &HostRuntime,
@@ -155,12 +147,13 @@ impl Inputs {
         ensures faults { IfOk result (λ keeper. keeper.faults ≡ 0) }
         ensures choices { IfOk result (λ keeper. keeper.choices ≡ choices.events) }
     {
+        let helper = FlushHelper::lent(rt);
         let mut keeper = if uses_record(rt.alloc(), &self.words)? {
             FolderKeeper::new(rt.alloc(), *rt, &self.state, &self.folders, choices)?
         } else {
             FolderKeeper::unread(rt.alloc(), *rt, &self.state, &self.folders, choices)?
         };
-        if let Some(helper) = self.helper.replace(None) {
+        if let Some(helper) = helper {
             keeper.lend(helper);
         }
         Ok(keeper)
