@@ -1,0 +1,7 @@
+mod Trees
+mod Freeing
+mod Fetches
+mod Loading
+mod Searching
+mod Asking
+mod Discovering
