@@ -1,7 +1,7 @@
 -- The numbers and texts of statuses.
 use Rattle.std.specs.Prelude.{ℕ, List, [], codes}
 use Rattle.run_status.specs.declared.status.Status.{Status}
-use Rattle.run_status.specs.declared.status.Status.TheVariants.{Done, Usage, LongPassword, NoConfig, ConfigForm, ConfigLocked, ConfigInner, NoState, BadState, Exists, Violation, DirectoryFault, StateFault, InputFault, OutputFault, Memory, HostFault, CopyRefused, CopyStopped}
+use Rattle.run_status.specs.declared.status.Status.TheVariants.{Done, Usage, LongPassword, NoConfig, ConfigForm, ConfigLocked, ConfigInner, NoState, BadState, Exists, Violation, DirectoryFault, StateFault, InputFault, OutputFault, Memory, HostFault, CopyRefused, CopyStopped, NotConfirmed, ClientSpent}
 
 abbrev pub code_of : Status → ℕ
 code_of Done = 0
@@ -23,6 +23,8 @@ code_of Memory = 10
 code_of HostFault = 12
 code_of CopyRefused = 13
 code_of CopyStopped = 14
+code_of NotConfirmed = 16
+code_of ClientSpent = 11
 
 abbrev pub sentence_of : Status → List ℕ
 sentence_of Done = []
@@ -44,6 +46,8 @@ sentence_of Memory = codes "out of memory"
 sentence_of HostFault = codes "host folder fault"
 sentence_of CopyRefused = codes "copy refused"
 sentence_of CopyStopped = codes "copy stopped"
+sentence_of NotConfirmed = codes "not confirmed"
+sentence_of ClientSpent = codes "client spent"
 
 -- the first of two statuses that isn't Done
 abbrev pub first_of : Status → Status → Status

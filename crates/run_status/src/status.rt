@@ -43,6 +43,10 @@ pub enum Status {
     CopyRefused,
     /// A command of a copy was not answered.
     CopyStopped,
+    /// What can't be taken back wasn't confirmed.
+    NotConfirmed,
+    /// No greater number is left for a client.
+    ClientSpent,
 }
 
 impl Status {
@@ -74,6 +78,8 @@ impl Status {
             Status::HostFault => 12,
             Status::CopyRefused => 13,
             Status::CopyStopped => 14,
+            Status::NotConfirmed => 16,
+            Status::ClientSpent => 11,
         }
     }
 
@@ -101,6 +107,8 @@ impl Status {
             Status::HostFault => "host folder fault",
             Status::CopyRefused => "copy refused",
             Status::CopyStopped => "copy stopped",
+            Status::NotConfirmed => "not confirmed",
+            Status::ClientSpent => "client spent",
         }
     }
 }
