@@ -12,6 +12,7 @@ mod strangers;
 mod surveys;
 mod telling;
 
+pub use flaws::{print_flaw, print_violation};
 pub use page::{FULL_PAGE, Page};
 pub use surveys::tell_survey;
 pub use telling::tell_verdict;

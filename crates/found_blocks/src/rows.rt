@@ -86,9 +86,10 @@ impl FoundRows {
         self.find(id).is_some()
     }
 
-    /// How many rows there are.
+    /// How many rows there are, each with a greater id than the one before.
     pub fn len(&self) -> usize
-        ensures { result ≡ length self.now }
+        ensures count { result ≡ length self.now }
+        ensures rise { T (is_sorted id_cmp self.now) }
     {
         self.rows.len()
     }
