@@ -1,5 +1,5 @@
 -- How the writing of found blocks goes on, from one block to the next.
-use Rattle.std.proofs.Common.{◌≡◌, ◌⊎◌, ◌<◌, ◌+◌, inl, inr, ℕ, Bool, true, false, cond, List, [], ◌∷◌, length, take, get_or, refl, sym, ◌∙◌, ap, subst, arith}
+use Rattle.std.proofs.Common.{◌≡◌, ◌⊎◌, ◌<◌, ◌≤◌, ◌+◌, inl, inr, ℕ, Bool, true, false, cond, List, [], ◌∷◌, length, take, get_or, refl, sym, ◌∙◌, ap, subst, arith}
 use Rattle.std.specs.Prelude.{◌||◌, is_some, map, if◌then◌else◌}
 use Rattle.std.specs.FinMap as fin
 use Rattle.std.specs.FinMap.{get-insert, get-empty}
@@ -15,6 +15,7 @@ use Rattle.std.specs.declared.result.Result.TheVariants.{Ok}
 use Rattle.block_id.specs.declared.id.BlockId.{BlockId}
 use Rattle.rand_core.specs.Stream.{Stream}
 use Rattle.outside.specs.Honest.{last_change}
+use Rattle.outside.specs.HonestLaws.{count_grows}
 use Rattle.outside.specs.Trace.{Call, block, got, put, adds}
 use Rattle.anew.specs.Begun.{IsBegun, first_life}
 use Rattle.anew.specs.Writing.{Renews}
@@ -26,7 +27,7 @@ use Rattle.found_blocks.specs.block_versions.Views.{held_of}
 use Rattle.found_blocks.specs.block_versions.local_state.Record.{plain_state}
 use Rattle.found_blocks.specs.block_versions.local_state.declared.state.State.{State}
 use Rattle.found_blocks.specs.declared.store.FoundStore.{FoundStore}
-use Rattle.found_blocks.specs.Reads.{LoadAnswers, Fetched}
+use Rattle.found_blocks.specs.Reads.{LoadAnswers, Fetched, passes}
 use Rattle.found_blocks.specs.Rows.{Author, author_in}
 use Rattle.cryfs_check.specs.check_rules.data_nodes.Layout.{ids_of}
 use Rattle.found_blocks.specs.block_versions.BlockRecords.{opened}
@@ -35,7 +36,9 @@ use Rattle.found_blocks.specs.block_versions.Verdicts.{good}
 use Rattle.found_blocks.specs.block_versions.local_state.declared.life.Life.{Life}
 use Rattle.found_blocks.specs.store_api.Content.{Id, id_cmp, same_id}
 use Rattle.found_blocks.specs.store_api.Holdings.{has_id}
-use Rattle.found_anew.specs.Renewing.{AreCopied, IsCopied, RenewsAll, RenewsFound, RenewsOnce, Rests}
+use Rattle.found_blocks.specs.Finding.{is_twin}
+use Rattle.found_anew.specs.Renewing.{AreCopied, AreFaithful, IsCopied, IsFaithful, RenewsAll, RenewsFound, RenewsOnce, Rests, WentOnRenewing, twins}
+use Rattle.found_anew.proofs.Going.{more_twins, untwinned}
 
 true_is_false : true ≡ false → ⊥
 true_is_false e = cc
@@ -103,6 +106,7 @@ module _ (f : Finding) (a : Held) (old : Option (List Call)) where
         known = λ id has. absurd (true_is_false (sym has));
         only = λ id has. absurd (true_is_false (sym has ∙ ap is_some (unknown id)));
         copied = none_copied old unknown;
+        faithful = λ few. none_faithful old unknown;
         begun = λ file before least begun. begun;
       }
     where
@@ -110,7 +114,12 @@ module _ (f : Finding) (a : Held) (old : Option (List Call)) where
       none_copied None unknown = tt
       none_copied (Some calls) unknown = λ id has. absurd (true_is_false (sym has ∙ ap is_some (unknown id)))
 
-  module _ (ids : List BlockId) (i : ℕ) (d : BlockId) (within : i < length ids) (h b : Held) (now new : Option (List Call)) (stream left : Stream) (r : RenewsAll f a h (ids_of (take i ids)) old now) where
+      none_faithful : (t : Option (List Call)) → ((id : Id) → fin.get a.state.lives id ≡ None) → AreFaithful f a t
+      none_faithful None unknown = tt
+      none_faithful (Some calls) unknown = λ id has. absurd (true_is_false (sym has ∙ ap is_some (unknown id)))
+
+  module _ (ids : List BlockId) (i : ℕ) (d : BlockId) (within : i < length ids) (h b : Held) (now new : Option (List Call)) (stream left : Stream) (r : RenewsAll f a h (ids_of (take i ids)) old now)
+      (went : WentOnRenewing f old now) where
     -- the block was known
     rested : fin.get h.state.lives (get_or ids i d).0 ≡ Some first_life → Rests h b now new stream left → RenewsAll f a b (ids_of (take (i + 1) ids)) old new
     rested there rests =
@@ -120,6 +129,7 @@ module _ (f : Finding) (a : Held) (old : Option (List Call)) where
           known = λ q has. elim (has_more ids i d q within has) [ inl before ↦ r.known q before | inr is ↦ ap (fin.get h.state.lives) is ∙ there ];
           only = λ q has. has_before ids i d q within (r.only q has);
           copied = r.copied;
+          faithful = r.faithful;
           begun = r.begun;
         }))
 
@@ -188,6 +198,35 @@ module _ (f : Finding) (a : Held) (old : Option (List Call)) where
                 }
           ])
 
+      -- with the payload that was found, unless it was a twin
+      faithful_more : (author : Author) (file : Option (List ℕ)) (bytes : List ℕ) (start mid end : Option (List Call)) → author_in f.rows (get_or ids i d).0 ≡ Some author
+          → mid ≡ adds start (got (block (get_or ids i d).0) (f.size + 1) file) → end ≡ adds mid (put (block (get_or ids i d).0) bytes true)
+          → judged_as f (get_or ids i d).0 author file ≡ good x.payload → opened h.opens h.size (get_or ids i d).0 bytes ≡ Some (own h (get_or ids i d).0 1 x.payload)
+          → twins f old ≤ twins f start → (twins f start ≤ twins f old → AreFaithful f h start) → twins f end ≤ twins f old → AreFaithful f k end
+      faithful_more author file bytes None mid end found is put_so judged opens rose was few =
+          subst (AreFaithful f k) (sym (put_so ∙ ap (λ t. adds t (put (block (get_or ids i d).0) bytes true)) is)) tt
+      faithful_more author file bytes (Some calls) mid end found is put_so judged opens rose was few =
+          let x_id = (get_or ids i d).0 in
+          let ends : end ≡ Some (put (block x_id) bytes true ∷ got (block x_id) (f.size + 1) file ∷ calls) = put_so ∙ ap (λ t. adds t (put (block x_id) bytes true)) is in
+          let few_calls : twins f (Some (got (block x_id) (f.size + 1) file ∷ calls)) ≤ twins f (Some calls) =
+          omega (arith, subst (λ t. twins f t ≤ twins f old) ends few, rose) in
+          let same : x.payload ≡ payload_of f x_id = untwinned f calls x_id author file x.payload found judged few_calls in
+          let few_before : twins f (Some calls) ≤ twins f old = omega (arith, subst (λ t. twins f t ≤ twins f old) ends few, count_grows (passes is_twin f) calls (got (block x_id) (f.size + 1) file ∷ [])) in
+          subst (AreFaithful f k) (sym ends) (λ q has. elim (which x_id q) [
+            | inl same_q ↦ subst (λ z. IsFaithful f k z (put (block x_id) bytes true ∷ got (block x_id) (f.size + 1) file ∷ calls)) (sym same_q) (record {
+              bytes = bytes;
+              last = ap (λ b. if b then Some (record { bytes = Some bytes; ok = true }) else last_change (block x_id) calls) ((bytes_eq-Decides x_id x_id).1 refl);
+              opens = opens ∙ ap (λ p. Some (own h x_id 1 p)) same;
+            })
+            | inr apart ↦
+                let c = was few_before q (sym (ap is_some (knows_other q apart.0)) ∙ has) in
+                record {
+                  bytes = c.bytes;
+                  last = ap (λ b. if b then Some (record { bytes = Some bytes; ok = true }) else last_change (block q) calls) apart.1 ∙ c.last;
+                  opens = c.opens;
+                }
+          ])
+
       pub renewed_more : RenewsAll f a b (ids_of (take (i + 1) ids)) old new
       renewed_more =
           let x_id = (get_or ids i d).0 in
@@ -199,6 +238,7 @@ module _ (f : Finding) (a : Held) (old : Option (List Call)) where
             known = known_more;
             only = only_more;
             copied = copied_more found.0 fetched.0 p.file now x.mid new found.1 fetched.1 p.is fetched.2 p.opens r.copied;
+            faithful = faithful_more found.0 fetched.0 p.file now x.mid new found.1 fetched.1 p.is fetched.2 p.opens (more_twins f old now went) r.faithful;
             begun = λ file before least begun.
                 put_begun h k x_id x.payload _ file before x.mid new (ap (λ (z : Held). z.state.least) r.beside ∙ least) unknown (record { puts = x.renews.puts; known = refl })
                 (got_begun h file before now x.mid x_id (f.size + 1) fetched.0 fetched.1 (r.begun file before least begun));

@@ -6,7 +6,7 @@ ghost use Rattle.cryfs_check.specs.check_rules.data_nodes.Layout.{ids_of};
 ghost use Rattle.found_blocks.specs.Views.{finding_by};
 ghost use Rattle.found_blocks.specs.block_versions.Views.{held_of};
 ghost use Rattle.found_blocks.specs.store_outcome.Meanings.{HasCause, IsQuiet};
-ghost use Rattle.found_anew.specs.Renewing.{RenewsAll, RenewsOnce};
+ghost use Rattle.found_anew.specs.Renewing.{RenewsAll, RenewsOnce, WentOnRenewing};
 
 use anew::renew;
 use block_id::{BlockId, Fail};
@@ -34,7 +34,8 @@ fn renew_found<V: Vault, C: Sealer, R: Rng>(
     ensures same { finding_by C.opens found.new ≡ finding_by C.opens found.old }
     ensures intact { OnOk result (⟦<FoundStore<V, C> as Blocks>⟧.meanings.intact found.new) }
     ensures client { OnOk result (state.new.client ≡ state.old.client) }
-    ensures grows { V.faults found.old.sealed.vault.vault ≤ V.faults found.new.sealed.vault.vault }
+    ensures grows { WentOnRenewing (finding_by C.opens found.old) (V.trace found.old.sealed.vault.vault) (V.trace found.new.sealed.vault.vault) }
+    ensures faults { V.faults found.old.sealed.vault.vault ≤ V.faults found.new.sealed.vault.vault }
     ensures cause { IfErr result (λ e. HasCause e (V.faults found.old.sealed.vault.vault) (V.faults found.new.sealed.vault.vault)) }
     ensures quiet { IsQuiet result (V.faults found.old.sealed.vault.vault) (V.faults found.new.sealed.vault.vault) }
 {
@@ -67,6 +68,7 @@ pub fn renew_all<V: Vault, C: Sealer, R: Rng>(
     requires fresh { state.old.known.lives ≡ fin.empty }
     ensures renews { OnOk result (RenewsAll (finding_by C.opens found.old) (held_of C.opens found.old.sealed state.old) (held_of C.opens found.new.sealed state.new)
         (ids_of ids.now) (V.trace found.old.sealed.vault.vault) (V.trace found.new.sealed.vault.vault)) }
+    ensures grows { WentOnRenewing (finding_by C.opens found.old) (V.trace found.old.sealed.vault.vault) (V.trace found.new.sealed.vault.vault) }
     ensures same { finding_by C.opens found.new ≡ finding_by C.opens found.old }
     ensures intact { OnOk result (⟦<FoundStore<V, C> as Blocks>⟧.meanings.intact found.new) }
     ensures cause { IfErr result (λ e. HasCause e (V.faults found.old.sealed.vault.vault) (V.faults found.new.sealed.vault.vault)) }

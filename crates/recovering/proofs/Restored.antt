@@ -5,6 +5,8 @@ use Rattle.std.specs.declared.option.Option.{Option}
 use Rattle.std.specs.declared.option.Option.TheVariants.{None, Some}
 use Rattle.std.specs.declared.result.Result.TheVariants.{Ok, Err}
 use Rattle.block_id.specs.Formats.{magic}
+use Rattle.block_id.specs.declared.fail.Fail.TheVariants as fail
+use Rattle.outside.specs.Causes.{RoseBy}
 use Rattle.outside.specs.Honest.{count_told}
 use Rattle.outside.specs.Trace.{Call, config}
 use Rattle.outside.specs.declared.keeper.Keeper.{Ghosts as KeeperGhosts}
@@ -14,7 +16,7 @@ use Rattle.mount.specs.Representing.{Represents}
 use Rattle.mount.specs.aes_gcm.Gcm.{opened_of}
 use Rattle.mount.specs.block_versions.Forgeries.{forged}
 use Rattle.mount.specs.block_versions.Held.{Held, wanted}
-use Rattle.mount.specs.block_versions.ReadLaws.{goes_on, last_went}
+use Rattle.mount.specs.block_versions.ReadLaws.{last_went}
 use Rattle.mount.specs.block_versions.Reads.{WentOnByReads}
 use Rattle.mount.specs.block_versions.Standing.{identity_of, records}
 use Rattle.mount.specs.config_file.Settings.{Settings}
@@ -30,8 +32,8 @@ use Rattle.mount.specs.record_saver.Saving.{KeptConfigures}
 use Rattle.mount.specs.record_saver.declared.saver.SyncError.TheVariants.{Memory, FaultDirectory, FaultState}
 use Rattle.mount.specs.store_api.Content.{SameContent}
 use Rattle.mount.specs.store_api.Durables.{Identity, last_told}
-use Rattle.recovering.specs.Keeping.{KeepsShown, LeavesUnkept}
-use Rattle.recovering.specs.Restoring.{IsRestored, LeavesUnrestored}
+use Rattle.recovering.specs.Keeping.{KeepsShown, LeavesUnkept, Tells}
+use Rattle.recovering.specs.Restoring.{IsRestored, LeavesUnrestored, OnlyReads, TellsRestored}
 use Rattle.recovering.specs.declared.keeping.Unkept.{Unkept}
 use Rattle.recovering.specs.declared.keeping.Unkept.TheVariants.{Flaw, Failed, Unsaved}
 
@@ -99,7 +101,7 @@ module _ {V : Type 0} {K : Type 0} (trace : V → Option (List Call)) (faults : 
   )
 
   pub restored : IsRestored trace G h root written vault keeper
-  restored = record { tree = shown.tree; kept = record_kept; goes_on = goes_on (sealed_held store) written (trace vault) reads; stands = stands; configures = configures }
+  restored = record { tree = shown.tree; kept = record_kept; stands = stands; configures = configures }
 
 pub unrestored : {V : Type 0} {K : Type 0} (trace : V → Option (List Call)) (G : KeeperGhosts K) (store : IntegrityStore V Cipher) (keeper : K) (vault : V) (after : K) (result : Result Unit Unkept)
     → LeavesUnkept trace G store keeper vault after result → LeavesUnrestored G.kept keeper after result
@@ -109,3 +111,19 @@ unrestored trace G store keeper vault after (Err (Failed fail)) l = l.0
 unrestored trace G store keeper vault after (Err (Unsaved Memory)) l = l.0
 unrestored trace G store keeper vault after (Err (Unsaved FaultDirectory)) l = l.0
 unrestored trace G store keeper vault after (Err (Unsaved FaultState)) l = tt
+
+-- what was told of the store is told of what it was made of
+pub tells_restored : {V : Type 0} {K : Type 0} (faults : V → ℕ) (G : KeeperGhosts K) (store : IntegrityStore V Cipher) (failed : ℕ) (keeper : K) (vault : V) (after : K) (result : Result Unit Unkept)
+    → faults store.sealed.vault.vault ≡ failed → Tells faults G store keeper vault after result → TellsRestored G failed (faults vault) keeper after result
+tells_restored faults G store failed keeper vault after (Ok u) is t = (t.0 ∙ is, t.1)
+tells_restored faults G store failed keeper vault after (Err (Flaw flaw)) is t = (t.0 ∙ is, t.1)
+tells_restored faults G store failed keeper vault after (Err (Failed fail.Memory)) is t = (t.0 ∙ is, t.1)
+tells_restored faults G store failed keeper vault after (Err (Failed (fail.Violation why))) is t = (t.0 ∙ is, t.1)
+tells_restored faults G store failed keeper vault after (Err (Failed fail.Fault)) is t = (subst (λ n. RoseBy 1 n (faults vault)) is t.0, t.1)
+tells_restored faults G store failed keeper vault after (Err (Unsaved Memory)) is t = (t.0 ∙ is, t.1)
+tells_restored faults G store failed keeper vault after (Err (Unsaved FaultDirectory)) is t = (t.0 ∙ is, t.1)
+tells_restored faults G store failed keeper vault after (Err (Unsaved FaultState)) is t = (t.0, t.1 ∙ is)
+
+pub only_reads : {V : Type 0} (trace : V → Option (List Call)) (store : IntegrityStore V Cipher) (written : Option (List Call)) (vault : V) → sealed_trace trace store ≡ written
+    → WentOnByReads (sealed_held store) (sealed_trace trace store) (trace vault) → OnlyReads written (trace vault)
+only_reads trace store written vault is went = record { reader = sealed_held store; reads = subst (λ t. WentOnByReads (sealed_held store) t (trace vault)) is went }

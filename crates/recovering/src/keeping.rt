@@ -1,6 +1,7 @@
 // What was written anew, checked and kept.
 ghost use Rattle.std.specs.Prelude.{◌≡◌, [], IfOk, OnOk};
-ghost use Rattle.mount.specs.mount_stores.Tower.{sealed_meanings, sealed_holdings, sealed_durables, sealed_trace};
+ghost use Rattle.mount.specs.mount_stores.Tower.{sealed_held, sealed_meanings, sealed_holdings, sealed_durables, sealed_trace};
+ghost use Rattle.mount.specs.block_versions.Reads.{WentOnByReads};
 ghost use Rattle.cryfs_check.specs.Checks.{ListsLive};
 ghost use Rattle.recovering.specs.Keeping.{KeepsShown, LeavesUnkept, Tells};
 
@@ -42,6 +43,7 @@ pub fn keep<V: Vault, K: Keeper>(
     requires none { (sealed_durables V.trace).list store ≡ [] }
     ensures kept { OnOk result.0 (KeepsShown V.trace V.faults K.Keeper store root.now.0 result.1 result.2) }
     ensures unkept { LeavesUnkept V.trace K.Keeper store keeper result.1 result.2 result.0 }
+    ensures reads { WentOnByReads (sealed_held store) (sealed_trace V.trace store) (V.trace result.1) }
     ensures tells { Tells V.faults K.Keeper store keeper result.1 result.2 result.0 }
 {
     let mut store = store;

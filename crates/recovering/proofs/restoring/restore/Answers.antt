@@ -5,7 +5,7 @@ use Rattle.mount.specs.aes_gcm.Gcm.{opened_of}
 use Rattle.mount.specs.block_versions.Views.{held_of}
 use Rattle.recovering.specs.Keeping.{KeepsShown}
 use Rattle.recovering.specs.Restoring.{IsRestored}
-use Rattle.recovering.proofs.Restored.{restored, unrestored}
+use Rattle.recovering.proofs.Restored.{only_reads, restored, tells_restored, unrestored}
 use Rattle.recovering.proofs.restoring.restore.Goals as goal
 
 on_ok : {T E : Type 0} (r : Result T E) (P Q : Type 0) → (P → Q) → OnOk r P → OnOk r Q
@@ -26,3 +26,11 @@ returns-clause-restored g c =
 
 pub returns-clause-unrestored : goal.returns-clause-unrestored
 returns-clause-unrestored g c = unrestored g.V.Vault.trace g.K.Keeper c.finish-store.result c.args.keeper c.keep.result.1 c.keep.result.2 c.keep.result.0 c.keep.ensures.unkept
+
+pub returns-clause-reads : goal.returns-clause-reads
+returns-clause-reads g c =
+    only_reads g.V.Vault.trace c.finish-store.result (g.V.Vault.trace c.args.sealed.vault.vault) c.keep.result.1 c.finish-store.ensures.made.trace c.keep.ensures.reads
+
+pub returns-clause-tells : goal.returns-clause-tells
+returns-clause-tells g c =
+    tells_restored g.V.Vault.faults g.K.Keeper c.finish-store.result (g.V.Vault.faults c.args.sealed.vault.vault) c.args.keeper c.keep.result.1 c.keep.result.2 c.keep.result.0 c.finish-store.ensures.made.faults c.keep.ensures.tells
