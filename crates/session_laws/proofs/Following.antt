@@ -9,8 +9,9 @@ use Rattle.mount.specs.mount_core.Showing.{Showing}
 use Rattle.mount.specs.mount_core.Standing.{IsKeptMarked}
 use Rattle.mount.specs.Representing.{Represents}
 use Rattle.mount.proofs.Reading.{loaded_unmarked}
-use Rattle.session_laws.specs.Runs.{Outside, OutsideStandsFor, OpensTo, IsFounded, IsExaminedRun, IsMigrationRun}
-use Rattle.session_laws.specs.Histories.{Run, session, quiet, examined, migrated, before_of, after_of, exchanges_of, condemns, IsRun, IsUnforgedRun, GoesOnFrom, AreRuns, end_of, was_violated, IsRefusedRun, RunsFrom, Follow, EndsWith}
+use Rattle.session_laws.proofs.Looked.{looked_stands}
+use Rattle.session_laws.specs.Runs.{Outside, OutsideStandsFor, OpensTo, IsFounded, IsExaminedRun, IsMigrationRun, IsLookedRun}
+use Rattle.session_laws.specs.Histories.{Run, session, quiet, examined, migrated, looked, before_of, after_of, exchanges_of, condemns, IsRun, IsUnforgedRun, GoesOnFrom, AreRuns, end_of, was_violated, IsRefusedRun, Looks, RunsFrom, Follow, EndsWith}
 
 module _ (shows : Showing) (c : Settings) where
   pub stands_on : (last next : Outside) (tree : Tree) → GoesOnFrom last next → OutsideStandsFor shows c tree last → OutsideStandsFor shows c tree next
@@ -21,7 +22,7 @@ module _ (shows : Showing) (c : Settings) where
 
   -- what one more run does, and where it leaves all
   abbrev Turned : Tree → Bool → Run → Type 0
-  Turned from was run = (tree : Tree) × (RunsFrom shows c from run tree ⊎ ((was ≡ true) × IsRefusedRun run))
+  Turned from was run = (tree : Tree) × (RunsFrom shows c from run tree ⊎ ((was ≡ true) × (IsRefusedRun run ⊎ Looks run)))
       × (OutsideStandsFor shows c tree (after_of run) ⊎ (((condemns run || was) ≡ true) × IsKeptMarked records (after_of run).kept))
 
   -- a check
@@ -59,12 +60,15 @@ module _ (shows : Showing) (c : Settings) where
   serving (examined password before after bad) from was run u s = examining password before after bad from was run (record { stands = s; unforged_config = u })
   serving (migrated password before after bad) from was run u s =
       migrating password before after bad from was run (record { opens = record { stands = s; unforged_config = u.0 }; unforged = u.1 })
+  serving (looked before after) from was run u s =
+      let kept = looked_stands before after run shows c from s in
+      (from, inl (refl, kept), inl kept)
 
   refused : (run : Run) (from : Tree) (was : Bool) → was ≡ true → IsKeptMarked records (before_of run).kept → exchanges_of run ≡ [] → condemns run ≡ false
       → (after_of run).kept ≡ (before_of run).kept → (after_of run).calls ≡ (before_of run).calls → Turned from was run
   refused run from was w m unanswered uncondemned kept calls = (
     from,
-    inr (w, record { marked = m; unanswered = unanswered; uncondemned = uncondemned; kept = kept; calls = calls }),
+    inr (w, inl (record { marked = m; unanswered = unanswered; uncondemned = uncondemned; kept = kept; calls = calls })),
     inr (or_right (condemns run) was w, subst (IsKeptMarked records) (sym kept) m),
   )
 
@@ -80,6 +84,7 @@ module _ (shows : Showing) (c : Settings) where
   refusing (migrated password before after bad) from was w run m =
       let same = run.marked m in
       refused (migrated password before after bad) from was w m refl same.0 same.1 same.2
+  refusing (looked before after) from was w run m = (from, inr (w, inr (m, run)), inr (w, subst (IsKeptMarked records) (sym run.kept) m))
 
   abbrev Composed : Tree → Outside → List Run → Type 0
   Composed first start runs = (trees : List Tree) × Follow shows c first runs trees × EndsWith shows c first start runs trees

@@ -16,7 +16,7 @@ use Rattle.mount.proofs.Reading.{loaded_unmarked}
 use Rattle.run_frame.proofs.mount_stores_lemmas.Reading.{only_unforged}
 use Rattle.session_laws.specs.Runs.{Outside, OutsideStandsFor, lies}
 use Rattle.session_laws.proofs.Whole.{unviolated}
-use Rattle.session_laws.specs.Histories.{Run, session, quiet, examined, migrated, before_of, condemns, was_violated, IsRun, IsUnforgedRun, AreRuns, end_of, OpensOrLocks, OpensOnly, IsHonestRun, AreHonestRuns}
+use Rattle.session_laws.specs.Histories.{Run, session, quiet, examined, migrated, looked, before_of, condemns, was_violated, IsRun, IsUnforgedRun, AreRuns, end_of, OpensOrLocks, OpensOnly, IsHonestRun, AreHonestRuns}
 use Rattle.session_laws.proofs.Configuration.{opened_only, locked_only, only_config}
 use Rattle.session_laws.proofs.Following.{stands_on, marked_on, compose}
 
@@ -34,6 +34,7 @@ one_opens_only c (session password before after closing es) h = config_only pass
 one_opens_only c (quiet password before after) h = config_only password c before after h.opens h.gave
 one_opens_only c (examined password before after bad) h = config_only password c before after h.opens h.gave
 one_opens_only c (migrated password before after bad) h = config_only password c before after h.opens h.gave
+one_opens_only c (looked before after) h = tt
 
 module _ (shows : Showing) (c : Settings) where
   pub one_unforged : (tree : Tree) (run : Run) → IsRun shows run → OutsideStandsFor shows c tree (before_of run) → IsHonestRun c run → IsUnforgedRun c run
@@ -45,6 +46,7 @@ module _ (shows : Showing) (c : Settings) where
   one_unforged tree (migrated password before after bad) run stands h =
       let config = config_unforged password c before after h.opens h.gave in
       (config, run.unforged c tree (record { stands = stands; unforged_config = config }) h.gave)
+  one_unforged tree (looked before after) run stands h = tt
 
   -- over a marked record no session is opened, and no call made
   marked_unforged : (run : Run) → IsRun shows run → IsKeptMarked records (before_of run).kept → IsHonestRun c run → IsUnforgedRun c run
@@ -55,6 +57,7 @@ module _ (shows : Showing) (c : Settings) where
   marked_unforged (migrated password before after bad) run m h =
       let same = ap (λ (t : Option (List Call)). count_told (forged (opened_of c.key) c.block_size) t) (run.marked m).2 in
       (config_unforged password c before after h.opens h.gave, omega (arith, same))
+  marked_unforged (looked before after) run m h = tt
 
   pub all_unforged : (first : Tree) (start : Outside) (runs : List Run) → OutsideStandsFor shows c first start → AreHonestRuns shows c start runs → AreRuns shows c start runs
   all_unforged first start [] s all = tt
@@ -77,6 +80,7 @@ module _ (shows : Showing) (c : Settings) where
       run.calm c tree (record { stands = stands; unforged_config = config_unforged password c before after h.opens h.gave }) h.gave
   one_calm tree (migrated password before after bad) run stands h =
       run.calm c tree (record { stands = stands; unforged_config = config_unforged password c before after h.opens h.gave }) h.gave
+  one_calm tree (looked before after) run stands h = refl
 
   neither : (one other : Bool) → one ≡ false → other ≡ false → (one || other) ≡ false
   neither one other e f = ap (λ (b : Bool). b || other) e ∙ f

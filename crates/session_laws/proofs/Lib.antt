@@ -8,6 +8,7 @@ pub mod Whole
 pub mod Unopened
 pub mod Examined
 pub mod Drawing
+pub mod Looked
 mod Following
 pub mod Configuration
 mod Honest

@@ -25,32 +25,37 @@ use Rattle.run_frame.specs.mount_stores.declared.error.OpenError.{OpenError}
 use Rattle.run_frame.specs.mount_stores.declared.error.OpenError.TheVariants.{Mismatch, NoConfig, Config as OfConfig}
 use Rattle.run_frame.specs.mount_stores.Unforged.{IsOnlyConfig, IsUnforgedConfig}
 use Rattle.session_laws.specs.Causes.{AreBuilt}
-use Rattle.session_laws.specs.Runs.{Outside, OutsideStandsFor, PasswordOpens, forgeries, lies, AreCalm, IsSessionRun, IsQuietRun, IsExaminedRun, IsMigrationRun}
+use Rattle.session_laws.specs.Runs.{Outside, OutsideStandsFor, PasswordOpens, forgeries, lies, AreCalm, IsSessionRun, IsQuietRun, IsExaminedRun, IsMigrationRun, IsLookedRun}
 
--- a run: the session of some exchanges, closed so, one of no lines, a check that was bad or not, or one that wrote the blocks anew and met a violation or didn't; each under a password, from the one moment outside to the other
+-- a run: the session of some exchanges, closed so, one of no lines, a check that was bad or not, or one that wrote the blocks anew and met a violation or didn't, each under a password; or one that only looked; from the one moment outside to the other
 pub data Run : Type 0 where
   session : List ℕ → Outside → Outside → Result Unit SyncError → List Exchange → Run
   quiet : List ℕ → Outside → Outside → Run
   examined : List ℕ → Outside → Outside → Bool → Run
   migrated : List ℕ → Outside → Outside → Bool → Run
+  looked : Outside → Outside → Run
 
 abbrev pub before_of : Run → Outside
 before_of (session password before after closing es) = before
 before_of (quiet password before after) = before
 before_of (examined password before after bad) = before
 before_of (migrated password before after bad) = before
+before_of (looked before after) = before
 
 abbrev pub after_of : Run → Outside
 after_of (session password before after closing es) = after
 after_of (quiet password before after) = after
 after_of (examined password before after bad) = after
 after_of (migrated password before after bad) = after
+after_of (looked before after) = after
 
+-- what was asked of the tree that is kept; what a look is told is none of it
 abbrev pub exchanges_of : Run → List Exchange
 exchanges_of (session password before after closing es) = es
 exchanges_of (quiet password before after) = []
 exchanges_of (examined password before after bad) = []
 exchanges_of (migrated password before after bad) = []
+exchanges_of (looked before after) = []
 
 -- there was a violation in it, or its check was bad
 abbrev pub condemns : Run → Bool
@@ -58,12 +63,14 @@ condemns (session password before after closing es) = violated es
 condemns (quiet password before after) = false
 condemns (examined password before after bad) = bad
 condemns (migrated password before after bad) = bad
+condemns (looked before after) = false
 
 abbrev pub IsRun : Showing → Run → Type 0
 IsRun shows (session password before after closing es) = IsSessionRun shows password before after (violated es) closing es
 IsRun shows (quiet password before after) = IsQuietRun shows password before after
 IsRun shows (examined password before after bad) = IsExaminedRun shows password before after bad
 IsRun shows (migrated password before after bad) = IsMigrationRun shows password before after bad
+IsRun shows (looked before after) = IsLookedRun before after
 
 -- nothing that opens was forged from one moment to the other: under the password no configuration of this file system and key but this one, and no block's file
 abbrev pub IsUnforged : List ℕ → Settings → Outside → Outside → Type 0
@@ -78,12 +85,13 @@ pub none_forged_back : (c : Settings) (before after : Outside) → GoesOn before
     → forgeries c after ≡ forgeries c before
 none_forged_back c before after = no_rise_where_none_since (forged (opened_of c.key) c.block_size) before.calls after.calls
 
--- nothing that opens was forged in the run; one of no lines asks for no block, and a check takes none of what it loads
+-- nothing that opens was forged in the run; one of no lines asks for no block, a check takes none of what it loads, and what is kept takes nothing of a look
 abbrev pub IsUnforgedRun : Settings → Run → Type 0
 IsUnforgedRun c (session password before after closing es) = IsUnforged password c before after
 IsUnforgedRun c (quiet password before after) = IsUnforgedConfig password before.kept before.calls after.calls c
 IsUnforgedRun c (examined password before after bad) = IsUnforgedConfig password before.kept before.calls after.calls c
 IsUnforgedRun c (migrated password before after bad) = IsUnforged password c before after
+IsUnforgedRun c (looked before after) = Unit {0}
 
 -- where the runs left all
 abbrev pub end_of : Outside → List Run → Outside
@@ -124,6 +132,7 @@ RunsFrom shows c from (session password before after closing es) tree = Serves s
 RunsFrom shows c from (quiet password before after) tree = (tree ≡ from) × OutsideStandsFor shows c tree after
 RunsFrom shows c from (examined password before after bad) tree = Examines shows c from before after bad tree
 RunsFrom shows c from (migrated password before after bad) tree = Examines shows c from before after bad tree
+RunsFrom shows c from (looked before after) tree = (tree ≡ from) × OutsideStandsFor shows c tree after
 
 -- a marked record was kept: nothing is answered, kept or called, and no check is bad
 pub record IsRefusedRun (run : Run) : Type 0 where
@@ -133,10 +142,15 @@ pub record IsRefusedRun (run : Run) : Type 0 where
   pub kept : (after_of run).kept ≡ (before_of run).kept
   pub calls : (after_of run).calls ≡ (before_of run).calls
 
--- each run serves from the tree that the one before it left, or, where one before left a mark after a violation, is refused
+-- a marked record was kept, and the run only looked: the mark stays
+abbrev pub Looks : Run → Type 0
+Looks (looked before after) = IsKeptMarked records before.kept × IsLookedRun before after
+Looks run = ⊥
+
+-- each run serves from the tree that the one before it left, or, where one before left a mark after a violation, is refused or only looks
 abbrev pub Follow : Showing → Settings → Tree → List Run → List Tree → Type 0
 Follow shows c first [] [] = Unit {0}
-Follow shows c first (run ∷ runs) (tree ∷ trees) = (RunsFrom shows c (latest first trees) run tree ⊎ ((was_violated runs ≡ true) × IsRefusedRun run)) × Follow shows c first runs trees
+Follow shows c first (run ∷ runs) (tree ∷ trees) = (RunsFrom shows c (latest first trees) run tree ⊎ ((was_violated runs ≡ true) × (IsRefusedRun run ⊎ Looks run))) × Follow shows c first runs trees
 Follow shows c first [] (tree ∷ trees) = ⊥
 Follow shows c first (run ∷ runs) [] = ⊥
 
@@ -174,7 +188,7 @@ RefusedIsUnforged = (password : List ℕ) (kept : Option (List ℕ)) (old new : 
 abbrev pub OpensOrLocks : List ℕ → Settings → Outside → Type 0
 OpensOrLocks password c o = PasswordOpens password c o ⊎ ((file : List ℕ) × KeptConfigures records o.kept o.calls file × ConfigOf password file locked)
 
--- the directory gave what was last written, and the configuration in it was this one
+-- the directory gave what was last written, and the configuration in it was this one; of a look nothing is asked
 pub record IsHonest (password : List ℕ) (c : Settings) (before after : Outside) : Type 0 where
   pub gave : lies after ≤ lies before
   pub opens : OpensOrLocks password c before
@@ -184,17 +198,19 @@ IsHonestRun c (session password before after closing es) = IsHonest password c b
 IsHonestRun c (quiet password before after) = IsHonest password c before after
 IsHonestRun c (examined password before after bad) = IsHonest password c before after
 IsHonestRun c (migrated password before after bad) = IsHonest password c before after
+IsHonestRun c (looked before after) = Unit {0}
 
 abbrev pub AreHonestRuns : Showing → Settings → Outside → List Run → Type 0
 AreHonestRuns shows c start [] = Unit {0}
 AreHonestRuns shows c start (run ∷ runs) = IsRun shows run × IsHonestRun c run × GoesOnFrom (end_of start runs) (before_of run) × AreHonestRuns shows c start runs
 
--- under the run's password no other configuration opens at all
+-- under the run's password no other configuration opens at all; a look asks for none of what is kept
 abbrev pub OpensOnly : Settings → Run → Type 0
 OpensOnly c (session password before after closing es) = IsOnlyConfig password before.kept before.calls after.calls c
 OpensOnly c (quiet password before after) = IsOnlyConfig password before.kept before.calls after.calls c
 OpensOnly c (examined password before after bad) = IsOnlyConfig password before.kept before.calls after.calls c
 OpensOnly c (migrated password before after bad) = IsOnlyConfig password before.kept before.calls after.calls c
+OpensOnly c (looked before after) = Unit {0}
 
 -- so it is in an honest run
 abbrev pub HonestRunOpensOnly : Type 0

@@ -34,6 +34,20 @@ abbrev pub OnlyGot : Option (List Call) → Option (List Call) → Type 0
 OnlyGot None new = new ≡ None
 OnlyGot (Some old) new = (gets : List Call) × (new ≡ Some (gets ++ old)) × AreGets gets
 
+-- the call asked for a file, whichever
+abbrev pub IsAsking : Call → Type 0
+IsAsking (got name max answer) = Unit {0}
+IsAsking _ = ⊥
+
+abbrev pub AreAsking : List Call → Type 0
+AreAsking [] = Unit {0}
+AreAsking (call ∷ calls) = IsAsking call × AreAsking calls
+
+-- the same as OnlyGot, where the configuration's file may be asked for too
+abbrev pub OnlyAsked : Option (List Call) → Option (List Call) → Type 0
+OnlyAsked None new = new ≡ None
+OnlyAsked (Some old) new = (asked : List Call) × (new ≡ Some (asked ++ old)) × AreAsking asked
+
 -- from the one mount to the other nothing was changed and nothing was saved, and blocks were only loaded
 pub record Rested {V : Type 0} {K : Type 0} (trace : V → Option (List Call)) (faults : V → ℕ) (old new : Mount V K) : Type 0 where
   pub changed : new.core.saver.changed ≡ false

@@ -27,7 +27,7 @@ use Rattle.mount.specs.Representing.{Represents}
 use Rattle.run_frame.specs.mount_stores.Identities.{HasEmptyList}
 use Rattle.run_frame.specs.mount_stores.Unforged.{IsOnlyConfig, IsUnforgedConfig}
 use Rattle.session_laws.specs.Causes.{AreAnswered, AreBuilt, VersionsSince, SpentSince}
-use Rattle.session_laws.specs.Resting.{AreIdle, OnlyGot}
+use Rattle.session_laws.specs.Resting.{AreIdle, OnlyGot, OnlyAsked}
 
 -- at one moment: what is kept, the calls on the directory where they are told, the newest first, and both counts of faults
 pub record Outside : Type 0 where
@@ -143,6 +143,11 @@ pub record IsQuietRun (shows : Showing) (password : List ℕ) (before after : Ou
   pub stands : (c : Settings) (tree : Tree) → OpensTo shows password c tree before after → OutsideStandsFor shows c tree after
   pub marked : IsKeptMarked records before.kept → (after.kept ≡ before.kept) × (after.calls ≡ before.calls)
   pub least : TakesSame before.kept after.kept
+
+-- A run that only looked, whatever the directory gave: it took nothing of what is kept, left it as it was, and only asked for files.
+pub record IsLookedRun (before after : Outside) : Type 0 where
+  pub kept : after.kept ≡ before.kept
+  pub asked : OnlyAsked before.calls after.calls
 
 -- A run of a check that was bad or not: it leaves what was kept, and after a bad one perhaps a marked record.
 pub record IsExaminedRun (shows : Showing) (password : List ℕ) (before after : Outside) (bad : Bool) : Type 0 where

@@ -4,8 +4,8 @@ ghost use Rattle.session_laws.specs.Histories.{RunsCompose, RunsComposeFromCreat
 
 /// Whatever the block directory returns, loses or refuses in any list of runs: each answers as a session of the plain tree from
 /// the tree that the one before it left, which is that of a kept point of its own session; a check leaves that tree, and so do
-/// blocks that are written anew. Or, once there was a violation or a bad check, it is refused. The premise is that nothing
-/// that opens was forged. Where opening stopped at what it found for the configuration, as at another file system's, none was.
+/// blocks that are written anew. Or, once there was a violation or a bad check, it is refused. One that only looks leaves both that
+/// tree and a mark. The premise is that nothing that opens was forged. Where opening stopped at what it found for the configuration, as at another file system's, none was.
 pub fn runs_compose()
     ensures all { RunsCompose ShowsFiles }
     ensures from_create { RunsComposeFromCreate ShowsFiles }
