@@ -1,0 +1,5 @@
+mod Looks
+mod Asked
+mod Beginning
+mod Running
+mod Leaving

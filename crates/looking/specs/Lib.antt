@@ -1,0 +1,4 @@
+pub mod Hosting
+pub mod HostLaws
+pub mod Finding
+pub mod Runs
