@@ -13,7 +13,7 @@ ghost use Rattle.shell_runs.specs.Mounting.{mounted_hosting};
 
 use crate::mounted::Mounted;
 use block_id::Memory;
-use host_folder::Folder;
+use host_attributes::Attributed;
 use outside::{Keeper, Sink, Source, Vault};
 use rand_core::Rng;
 use run_status::Status;
@@ -40,7 +40,7 @@ pub trait Asks: Drop {
 
     /// Asks the opened file system, reads what follows the password line, and writes the answers. The folder of the host
     /// is called by copies alone.
-    fn ask<'a, I: Source, O: Sink, F: Folder, V: Vault, K: Keeper, R: Rng>(
+    fn ask<'a, I: Source, O: Sink, F: Attributed, V: Vault, K: Keeper, R: Rng>(
         self,
         alloc: Global,
         mounted: Mounted<'a, V, K, R>,
@@ -57,11 +57,11 @@ pub trait Asks: Drop {
         ensures chance { result.mounted.chance.ghost_name ≡ mounted.entry.chance.ghost_name }
         ensures asked { (es : List Exchange)
             × Ran (mounted_hosting R.stream V.trace V.faults K.Keeper) mounted.entry es result.mounted
-            × Came manner self (host_of F.tree F.faults host.old host.new) reader.old.taken (coming reader.old.ahead (I.rest input.old))
+            × Came manner self (host_of F.Folder.tree F.attributes F.Folder.faults host.old host.new) reader.old.taken (coming reader.old.ahead (I.rest input.old))
             (stream_of I.rest I.faults input.old input.new) (stream_of O.written O.faults output.old output.new) result.end result.own es }
         ensures own { IsOwn result.own }
         ensures uncopied { manner.copies ≡ false → host.new ≡ host.old }
-        ensures host_grows { F.faults host.old ≤ F.faults host.new }
+        ensures host_grows { F.Folder.faults host.old ≤ F.Folder.faults host.new }
         ensures input_grows { I.faults input.old ≤ I.faults input.new }
         ensures output_grows { O.faults output.old ≤ O.faults output.new };
 }

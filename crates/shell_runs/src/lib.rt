@@ -20,5 +20,6 @@ pub use single_line::SingleLine;
 pub use turns::{close, open};
 
 // Handed on to crates above, which needn't list them.
-pub use host_folder;
+pub use host_attributes;
+pub use host_attributes::host_folder;
 pub use session_laws::run_frame;

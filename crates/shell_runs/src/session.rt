@@ -10,7 +10,7 @@ use crate::asks::{Answered, Asks};
 use crate::beginning::{Beginning, begin};
 use crate::mounted::Mounted;
 use crate::turns::{close, open};
-use host_folder::Folder;
+use host_attributes::Attributed;
 use outside::{Keeper, Sink, Source, Vault};
 use rand_core::Rng;
 use run_status::{Ended, Storage};
@@ -18,7 +18,7 @@ use std::alloc::Global;
 
 /// Opens the file system under the password line of the input, asks this, and closes it. All memory for lines and texts is
 /// taken before. The folder of the host is called only where a file system was opened.
-pub fn run_session<A: Asks, I: Source, O: Sink, F: Folder, V: Vault, K: Keeper, R: Rng>(
+pub fn run_session<A: Asks, I: Source, O: Sink, F: Attributed, V: Vault, K: Keeper, R: Rng>(
     alloc: Global,
     asks: A,
     input: &mut I,
@@ -29,15 +29,15 @@ pub fn run_session<A: Asks, I: Source, O: Sink, F: Folder, V: Vault, K: Keeper, 
 ) -> Ended<V, K>
     requires fits { A.manner.fits asks }
     ensures session { Session V.trace V.faults K.Keeper
-        (A.manner.Comes asks (host_of F.tree F.faults host.old host.new) (stream_of I.rest I.faults input.old input.new) (stream_of O.written O.faults output.old output.new))
+        (A.manner.Comes asks (host_of F.Folder.tree F.attributes F.Folder.faults host.old host.new) (stream_of I.rest I.faults input.old input.new) (stream_of O.written O.faults output.old output.new))
         (stream_of I.rest I.faults input.old input.new) (stream_of O.written O.faults output.old output.new) storage.vault storage.keeper result }
     ensures drawn { DrawsVectors (R.stream chance.old) (R.stream chance.new)
         (outside_of V.trace V.faults K.Keeper storage.vault storage.keeper) (outside_of V.trace V.faults K.Keeper result.vault result.keeper) }
     ensures unhosted { (host.new ≡ host.old) ⊎ WasServed V.trace V.faults K.Keeper
-        (A.manner.Comes asks (host_of F.tree F.faults host.old host.new) (stream_of I.rest I.faults input.old input.new) (stream_of O.written O.faults output.old output.new))
+        (A.manner.Comes asks (host_of F.Folder.tree F.attributes F.Folder.faults host.old host.new) (stream_of I.rest I.faults input.old input.new) (stream_of O.written O.faults output.old output.new))
         (stream_of I.rest I.faults input.old input.new) storage.vault storage.keeper result }
     ensures uncopied { A.manner.copies ≡ false → host.new ≡ host.old }
-    ensures host_grows { F.faults host.old ≤ F.faults host.new }
+    ensures host_grows { F.Folder.faults host.old ≤ F.Folder.faults host.new }
     ensures input_grows { I.faults input.old ≤ I.faults input.new }
     ensures output_grows { O.faults output.old ≤ O.faults output.new }
 {

@@ -5,7 +5,7 @@ use crate::asks::{Answered, Asks};
 use crate::mounted::Mounted;
 use block_id::Memory;
 use fs_model::Moment;
-use host_folder::Folder;
+use host_attributes::Attributed;
 use outside::{Keeper, Sink, Source, Vault};
 use rand_core::Rng;
 use run_status::Status;
@@ -29,7 +29,7 @@ impl Asks for ShellLines {
         TextBuffer::new(alloc)
     }
 
-    fn ask<'a, I: Source, O: Sink, F: Folder, V: Vault, K: Keeper, R: Rng>(
+    fn ask<'a, I: Source, O: Sink, F: Attributed, V: Vault, K: Keeper, R: Rng>(
         self,
         alloc: Global,
         mounted: Mounted<'a, V, K, R>,

@@ -15,7 +15,7 @@ returns-in-Err-open-clause-session g c =
     let whole = stream_of g.I.Source.rest g.I.Source.faults c.args.input.now c.begin.new.input in
     let output = stream_of g.O.Sink.written g.O.Sink.faults c.args.output.now c.args.output.now in
     let has = has_password whole whole b.beginning.reader r.0 b.beginning.password.items c.deref.result.now refl r.1 c.deref.ensures.value in
-    let Came = g.A.Asks.manner.Comes c.args.asks (host_of g.F.Folder.tree g.F.Folder.faults c.args.host.now c.args.host.now) whole output in
+    let Came = g.A.Asks.manner.Comes c.args.asks (host_of g.F.Folder.tree g.F.Attributed.attributes g.F.Folder.faults c.args.host.now c.args.host.now) whole output in
     halted g.V.Vault.trace g.V.Vault.faults g.K.Keeper Came whole output c.deref.result.now (coming b.beginning.reader.ahead whole.new) has c.args.storage.vault c.args.storage.keeper c.in-Err-open.ended
     c.in-Err-open.ensures.unopened r.1.stands.quiet (refl, refl)
 
@@ -30,7 +30,7 @@ returns-clause-unhosted g c =
     let output = stream_of g.O.Sink.written g.O.Sink.faults c.args.output.now asked.new.output in
     let has = has_password begun whole b.beginning.reader r.0 b.beginning.password.items c.deref.result.now refl r.1 c.deref.ensures.value in
     let script = coming b.beginning.reader.ahead begun.new in
-    let Came = g.A.Asks.manner.Comes c.args.asks (host_of g.F.Folder.tree g.F.Folder.faults c.args.host.now asked.new.host) whole output in
+    let Came = g.A.Asks.manner.Comes c.args.asks (host_of g.F.Folder.tree g.F.Attributed.attributes g.F.Folder.faults c.args.host.now asked.new.host) whole output in
     inr
     (was_served g.V.Vault.trace g.V.Vault.faults g.K.Keeper Came whole output c.deref.result.now script has c.args.storage.vault c.args.storage.keeper c.close.result g.R.Rng.stream
     (record { mount = c.in-Ok-open.mount; chance = record { ref_ptr = c.args.chance.ref_ptr; ghost_name = _; now = c.args.chance.now } }) asked.result.mounted s.0 asked.result.end asked.result.own
@@ -47,7 +47,7 @@ returns-clause-session g c =
     let output = stream_of g.O.Sink.written g.O.Sink.faults c.args.output.now asked.new.output in
     let has = has_password begun whole b.beginning.reader r.0 b.beginning.password.items c.deref.result.now refl r.1 c.deref.ensures.value in
     let script = coming b.beginning.reader.ahead begun.new in
-    let Came = g.A.Asks.manner.Comes c.args.asks (host_of g.F.Folder.tree g.F.Folder.faults c.args.host.now asked.new.host) whole output in
+    let Came = g.A.Asks.manner.Comes c.args.asks (host_of g.F.Folder.tree g.F.Attributed.attributes g.F.Folder.faults c.args.host.now asked.new.host) whole output in
     served g.V.Vault.trace g.V.Vault.faults g.K.Keeper Came whole output c.args.storage.vault c.args.storage.keeper c.close.result
     (was_served g.V.Vault.trace g.V.Vault.faults g.K.Keeper Came whole output c.deref.result.now script has c.args.storage.vault c.args.storage.keeper c.close.result g.R.Rng.stream
     (record { mount = c.in-Ok-open.mount; chance = record { ref_ptr = c.args.chance.ref_ptr; ghost_name = _; now = c.args.chance.now } }) asked.result.mounted s.0 asked.result.end asked.result.own
