@@ -20,7 +20,7 @@ use Rattle.fs_model.specs.Tree.{Path, Row, Tree, upward, children, name_cmp, is_
 use Rattle.fs_model.proofs.LookUpLemmas.{get-found}
 use Rattle.fs_model.proofs.TreeLemmas.{path_split, insert_here, insert_apart, set_again, name_split, name_same, name_apart, get-children}
 use Rattle.copy_row.specs.host_folder.Folders.{HostPath}
-use Rattle.copy_row.specs.copy_laws.Importing.{AllDone}
+use Rattle.copy_row.specs.copy_laws.Importing.{AllDone, plain_of}
 use Rattle.copy_row.specs.copy_laws.Questions.{Question, AreDone, Followed, commands_of}
 use Rattle.copy_row.proofs.copy_laws_lemmas.Copying.{done_follows}
 use Rattle.host_attributes.specs.Attributes.{attributed, attr_in}
@@ -157,6 +157,18 @@ unfolding AllGiven
 untouched now [] t last p h none = ap (λ z. get z p) h
 untouched now (d ∷ ds) t last p (mid, (one, more)) none = untouched now ds mid last p more (λ i. none (inr i)) ∙ other_row t mid (upward d.tree) p (given_attr d.attr now) one (λ e. none (inl e))
 
+-- kinds and bytes stay
+rows_plain : (now : Instant) (ds : List Dressed) (t last : Tree) (p : Path) → AllGiven now t ds last → plain_of (get last p) ≡ plain_of (get t p)
+unfolding AllGiven
+rows_plain now [] t last p h = ap (λ z. plain_of (get z p)) h
+rows_plain now (d ∷ ds) t last p (mid, (one, more)) = rows_plain now ds mid last p more ∙ elim (path_split p (upward d.tree)) [
+  | inl e ↦ ap (λ z. plain_of (get mid z)) e ∙ (ap plain_of (this_row t mid (upward d.tree) (given_attr d.attr now) one) ∙ sym (ap (λ z. plain_of (get t z)) e ∙ ap plain_of one.was))
+  | inr differ ↦ ap plain_of (other_row t mid (upward d.tree) p (given_attr d.attr now) one differ)
+]
+
+pub gives_plain : (rows : List Dressed) (qs : List Question) (now : Instant) (old new : Tree) (p : Path) → Each IsGiven qs → commands_of qs ≡ gifts rows → Followed old now qs new → plain_of (get new p) ≡ plain_of (get old p)
+gives_plain rows qs now old new p given is followed = rows_plain now rows old new p (rows_done now rows old new (subst (λ cs. AllDone old now cs new) is (done_follows now qs old new (given_done qs given) followed)))
+
 -- ---- the rows of a tour
 
 -- they lie at the same place below the two paths, and have the told attributes
@@ -164,7 +176,7 @@ abbrev AreTold : Tree → HostPath → List Dressed → Type 0
 AreTold t q [] = Unit {0}
 AreTold t q (d ∷ ds) = ((n : List ℕ) × ((r : HostPath) × ((d.host ≡ n ∷ r) × ((d.tree ≡ q ++ n ∷ r) × (attr_in (get t (upward d.host)) ≡ Some d.attr))))) × AreTold t q ds
 
-abbrev HasHost : HostPath → List Dressed → Type 0
+abbrev pub HasHost : HostPath → List Dressed → Type 0
 HasHost p [] = ⊥
 HasHost p (d ∷ ds) = (d.host ≡ p) ⊎ HasHost p ds
 
@@ -181,11 +193,11 @@ host_right : (p : HostPath) (ds es : List Dressed) → HasHost p es → HasHost 
 host_right p [] es h = h
 host_right p (d ∷ ds) es h = inr (host_right p ds es h)
 
-cons_of : (p : HostPath) (x : List ℕ) → (n : List ℕ) × ((r : HostPath) × (p ++ x ∷ [] ≡ n ∷ r))
+pub cons_of : (p : HostPath) (x : List ℕ) → (n : List ℕ) × ((r : HostPath) × (p ++ x ∷ [] ≡ n ∷ r))
 cons_of [] x = (x, ([], refl))
 cons_of (m ∷ p) x = (m, (p ++ x ∷ [], refl))
 
-child_up : (p : HostPath) (n : List ℕ) → upward (p ++ n ∷ []) ≡ n ∷ upward p
+pub child_up : (p : HostPath) (n : List ℕ) → upward (p ++ n ∷ []) ≡ n ∷ upward p
 child_up p n = reverse-append p (n ∷ [])
 
 module _ (t : Tree) (q : HostPath) where
@@ -270,7 +282,7 @@ module _ (t : Tree) (folders : HasFolders t) where
       by File e h = let bad : File ≡ Directory = e in cc
       by Link e h = let bad : Link ≡ Directory = e in cc
 
-  covers : (depth : ℕ) (p to : HostPath) (ds : List Dressed) → IsTour depth (told_kids t) p to ds → (n : List ℕ) (s : HostPath) (row : Row) → get t (upward (p ++ n ∷ s)) ≡ Some row → HasHost (p ++ n ∷ s) ds
+  pub covers : (depth : ℕ) (p to : HostPath) (ds : List Dressed) → IsTour depth (told_kids t) p to ds → (n : List ℕ) (s : HostPath) (row : Row) → get t (upward (p ++ n ∷ s)) ≡ Some row → HasHost (p ++ n ∷ s) ds
   covers zero p to ds h n s row is = absurd h
   covers (suc depth) p to ds h n [] row is = own_covered (IsTour depth (told_kids t)) p to n row (entries (children t (upward p))) ds (found_kid p n row (sym (ap (get t) (child_up p n)) ∙ is)) h
   covers (suc depth) p to ds h n (m ∷ s) row is =
@@ -281,10 +293,10 @@ module _ (t : Tree) (folders : HasFolders t) where
 
 -- ---- the law
 
-up_same : (p r : HostPath) → upward p ≡ upward r → p ≡ r
+pub up_same : (p r : HostPath) → upward p ≡ upward r → p ≡ r
 up_same p r e = sym (reverse-reverse p) ∙ (ap reverse e ∙ reverse-reverse r)
 
-attr_same : (o : Option Row) (row : Row) (attr : Attr) → o ≡ Some row → attr_in o ≡ Some attr → attr ≡ row.attr
+pub attr_same : (o : Option Row) (row : Row) (attr : Attr) → o ≡ Some row → attr_in o ≡ Some attr → attr ≡ row.attr
 attr_same o row attr is h = ap (λ z. of z) (sym h ∙ ap attr_in is)
   where
     of : Option Attr → Attr
