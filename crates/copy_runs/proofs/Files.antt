@@ -8,12 +8,12 @@ use Rattle.copy_file.specs.line_io.Streams.{Stream}
 use Rattle.shell_runs.specs.run_frame.Statuses.{IsOwn}
 use Rattle.run_status.specs.declared.status.Status.{Status}
 use Rattle.copy_file.specs.session_lines.declared.end.End.{End}
-use Rattle.tree_copy.specs.host_folder.Folders.{HostPath}
-use Rattle.tree_copy.specs.copy_laws.declared.copied.Totals.{Totals}
-use Rattle.tree_copy.specs.copy_laws.declared.copied.CopyFail.TheVariants as fail
+use Rattle.copy_attributes.specs.tree_copy.host_folder.Folders.{HostPath}
+use Rattle.copy_attributes.specs.tree_copy.copy_laws.declared.copied.Totals.{Totals}
+use Rattle.copy_attributes.specs.tree_copy.copy_laws.declared.copied.CopyFail.TheVariants as fail
 use Rattle.copy_file.specs.copy_sessions.declared.way.Way.TheVariants.{In}
-use Rattle.tree_copy.specs.copy_row.declared.stop.Stop.{Stop}
-use Rattle.tree_copy.specs.copy_row.declared.stop.Stop.TheVariants as stop
+use Rattle.copy_attributes.specs.tree_copy.copy_row.declared.stop.Stop.{Stop}
+use Rattle.copy_attributes.specs.tree_copy.copy_row.declared.stop.Stop.TheVariants as stop
 use Rattle.copy_file.specs.Coming.{IsPutTold, IsGetEnd}
 use Rattle.copy_runs.proofs.Owning.{is_own, mild_stop}
 

@@ -8,7 +8,7 @@ use Rattle.copy_file.specs.answers.declared.answer.Answer.{Answer}
 use Rattle.copy_file.specs.answers.declared.answer.Answer.TheVariants.{Reply as Replied}
 use Rattle.shell_runs.specs.mount_core.Answers.{OnReply}
 use Rattle.shell_runs.specs.mount_core.Showing.{is_reader, IsReplyTo as IsFormOf}
-use Rattle.tree_copy.specs.copy_laws.Questions.{IsReplyTo}
+use Rattle.copy_attributes.specs.tree_copy.copy_laws.Questions.{IsReplyTo}
 
 true_is_false : true ≡ false → ⊥
 true_is_false e = cc

@@ -10,9 +10,9 @@ use Rattle.copy_file.specs.line_io.Streams.{Stream}
 use Rattle.shell_runs.specs.run_frame.Statuses.{IsOwn}
 use Rattle.run_status.specs.declared.status.Status.{Status}
 use Rattle.copy_file.specs.session_lines.declared.end.End.{End}
-use Rattle.tree_copy.specs.copy_laws.declared.copied.Totals.{Totals}
-use Rattle.tree_copy.specs.copy_laws.declared.copied.CopyFail.{CopyFail}
-use Rattle.tree_copy.specs.copy_laws.declared.copied.CopyFail.TheVariants as fail
+use Rattle.copy_attributes.specs.tree_copy.copy_laws.declared.copied.Totals.{Totals}
+use Rattle.copy_attributes.specs.tree_copy.copy_laws.declared.copied.CopyFail.{CopyFail}
+use Rattle.copy_attributes.specs.tree_copy.copy_laws.declared.copied.CopyFail.TheVariants as fail
 use Rattle.copy_file.specs.copy_sessions.declared.way.Way.{Way}
 use Rattle.copy_file.specs.copy_sessions.Coming.{IsCopyTold}
 use Rattle.copy_file.specs.copy_sessions.Statuses.{copy_status, stopped_status}

@@ -7,7 +7,7 @@ use Rattle.outside.specs.declared.keeper.Keeper.{Ghosts as KeeperGhosts}
 use Rattle.rand_core.specs.Stream.{Stream}
 use Rattle.shell_runs.specs.mount.Mounts.{IsReady}
 use Rattle.shell_runs.specs.Mounting.{mounted_hosting}
-use Rattle.tree_copy.specs.copy_laws.Questions.{Asking, LawfulAsker}
+use Rattle.copy_attributes.specs.tree_copy.copy_laws.Questions.{Asking, LawfulAsker}
 use Rattle.copy_file.specs.copy_sessions.Hosted.{host_asking}
 use Rattle.copy_file.specs.copy_sessions.HostedLaws.{host_lawful}
 use Rattle.copy_runs.specs.declared.asker.MountAsker.{MountAsker}

@@ -1,6 +1,7 @@
 // A mount answers the commands of a copy.
 ghost use Rattle.copy_runs.specs.Asking.{mount_asking, mount_lawful};
 
+use copy_attributes::tree_copy::copy_laws::{Asker, Stopped};
 use copy_file::answers::{Answer, Host};
 use copy_file::copy_sessions::{ask_host, reply_of};
 use fs_model::{Command, Moment, Reply};
@@ -8,7 +9,6 @@ use outside::{Keeper, Vault};
 use rand_core::Rng;
 use shell_runs::Mounted;
 use std::alloc::Global;
-use tree_copy::copy_laws::{Asker, Stopped};
 
 /// An opened file system that answers the commands of a copy at one moment. The last answer that is no reply is kept, and
 /// such answers are counted.

@@ -1,58 +1,48 @@
 // Exports under the password line of the input.
-ghost use Rattle.std.specs.Prelude.{◌≡◌, ◌≤◌, List};
-ghost use Rattle.copy_file.specs.line_io.Streams.{stream_of, Stream};
-ghost use Rattle.copy_file.specs.answers.Hosts.{Ran};
-ghost use Rattle.copy_file.specs.answers.Sessions.{Exchange, AllAt};
-ghost use Rattle.copy_file.specs.session_lines.Driven.{IsUnfailed};
-ghost use Rattle.shell_runs.specs.mount.Mounts.{IsReady};
-ghost use Rattle.shell_runs.specs.run_frame.Statuses.{IsOwn};
-ghost use Rattle.shell_runs.specs.Mounting.{mounted_hosting};
-ghost use Rattle.copy_file.specs.copy_sessions.Coming.{IsExportSession};
-ghost use Rattle.copy_runs.specs.Asking.{IsFresh};
-ghost use Rattle.copy_runs.specs.Copies.{export_manner};
+ghost use Rattle.copy_file.specs.copy_sessions.declared.way.Way.TheVariants.{Out};
+ghost use Rattle.copy_runs.specs.Copies.{export_manner, export_times_manner};
+ghost use Rattle.copy_runs.specs.Sessions.{export_carriage, export_times_carriage};
 
 use crate::asker::MountAsker;
+use crate::carrying::{Carries, copy_told};
 use block_id::Memory;
-use copy_file::copy_sessions::{CopyText, Way, tell_copy};
+use copy_attributes::export_with_attributes;
+use copy_attributes::host_attributes::Attributed;
+use copy_attributes::tree_copy::copy_laws::{Asker, CopyFail, Totals};
+use copy_attributes::tree_copy::export;
+use copy_file::copy_sessions::{CopyText, Way};
 use copy_file::line_io::LineReader;
-use copy_file::session_lines::End;
 use fs_model::{Moment, Path};
 use outside::{Keeper, Sink, Source, Vault};
 use rand_core::Rng;
-use run_status::Status;
 use shell_runs::{Answered, Asks, Mounted};
 use std::alloc::Global;
-use tree_copy::export;
-use tree_copy::host_folder::Folder;
-
-/// Exports what stands below the source into the folder, and prints how that ended.
-fn export_told<F: Folder, O: Sink, V: Vault, K: Keeper, R: Rng>(
-    alloc: Global,
-    asker: &mut MountAsker<'_, V, K, R>,
-    source: &Path,
-    host: &mut F,
-    text: &mut CopyText,
-    output: &mut O,
-) -> (End, Status)
-    requires fresh { IsFresh V.trace V.faults K.Keeper asker.old }
-    ensures ready { IsReady V.trace V.faults K.Keeper asker.new.mounted.mount }
-    ensures chance { asker.new.mounted.chance.ghost_name ≡ asker.old.mounted.chance.ghost_name }
-    ensures exported { (es : List Exchange) × Ran (mounted_hosting R.stream V.trace V.faults K.Keeper) asker.old.mounted es asker.new.mounted
-        × AllAt asker.old.now es
-        × ((input : Stream) → IsUnfailed input → IsExportSession (F.tree host.old) (F.tree host.new) (F.faults host.old) (F.faults host.new) source.now input (stream_of O.written O.faults output.old output.new) result.0 result.1 es) }
-    ensures own { IsOwn result.1 }
-    ensures host_grows { F.faults host.old ≤ F.faults host.new }
-    ensures output_grows { O.faults output.old ≤ O.faults output.new }
-{
-    let copied = export(alloc, host, asker, source);
-    tell_copy(text, Way::Out, copied, &asker.kept, output)
-}
 
 /// What stands below this path, copied into a folder of the host, at one moment, and a line that says how that ended.
 #[derive(Drop)]
 pub struct Export {
     pub path: Path,
     pub now: Moment,
+}
+
+impl Carries for Export {
+    ghost goes = { Out };
+
+    ghost carriage = { export_carriage };
+
+    fn way(&self) -> Way {
+        Way::Out
+    }
+
+    fn carry<F: Attributed, A: Asker>(
+        &self,
+        alloc: Global,
+        host: &mut F,
+        asker: &mut A,
+        path: &Path,
+    ) -> Result<Totals, CopyFail> {
+        export(alloc, host, asker, path)
+    }
 }
 
 impl Asks for Export {
@@ -64,7 +54,7 @@ impl Asks for Export {
         CopyText::new(alloc)
     }
 
-    fn ask<'a, I: Source, O: Sink, F: Folder, V: Vault, K: Keeper, R: Rng>(
+    fn ask<'a, I: Source, O: Sink, F: Attributed, V: Vault, K: Keeper, R: Rng>(
         self,
         alloc: Global,
         mounted: Mounted<'a, V, K, R>,
@@ -74,14 +64,76 @@ impl Asks for Export {
         output: &mut O,
         host: &mut F,
     ) -> Answered<'a, V, K, R> {
-        let Self { path, now } = self;
         let mut asker = MountAsker {
             mounted,
-            now,
+            now: self.now,
             kept: None,
             stopped: 0,
         };
-        let (end, own) = export_told(alloc, &mut asker, &path, host, text, output);
+        let (end, own) = copy_told(alloc, &self, &mut asker, &self.path, host, text, output);
+        let MountAsker {
+            mounted,
+            now: _,
+            kept: _,
+            stopped: _,
+        } = asker;
+        Answered { mounted, end, own }
+    }
+}
+
+/// The same with the attributes of the rows, which are set behind the copy.
+#[derive(Drop)]
+pub struct ExportTimes {
+    pub path: Path,
+    pub now: Moment,
+}
+
+impl Carries for ExportTimes {
+    ghost goes = { Out };
+
+    ghost carriage = { export_times_carriage };
+
+    fn way(&self) -> Way {
+        Way::Out
+    }
+
+    fn carry<F: Attributed, A: Asker>(
+        &self,
+        alloc: Global,
+        host: &mut F,
+        asker: &mut A,
+        path: &Path,
+    ) -> Result<Totals, CopyFail> {
+        export_with_attributes(alloc, host, asker, path)
+    }
+}
+
+impl Asks for ExportTimes {
+    ghost manner = { export_times_manner };
+
+    type Text = CopyText;
+
+    fn text(alloc: Global) -> Result<CopyText, Memory> {
+        CopyText::new(alloc)
+    }
+
+    fn ask<'a, I: Source, O: Sink, F: Attributed, V: Vault, K: Keeper, R: Rng>(
+        self,
+        alloc: Global,
+        mounted: Mounted<'a, V, K, R>,
+        reader: &mut LineReader,
+        text: &mut CopyText,
+        input: &mut I,
+        output: &mut O,
+        host: &mut F,
+    ) -> Answered<'a, V, K, R> {
+        let mut asker = MountAsker {
+            mounted,
+            now: self.now,
+            kept: None,
+            stopped: 0,
+        };
+        let (end, own) = copy_told(alloc, &self, &mut asker, &self.path, host, text, output);
         let MountAsker {
             mounted,
             now: _,

@@ -13,6 +13,7 @@ ghost use Rattle.copy_runs.specs.Copies.{get_manner};
 
 use crate::asker::MountAsker;
 use block_id::Memory;
+use copy_attributes::host_attributes::Attributed;
 use copy_file::line_io::LineReader;
 use copy_file::session_lines::End;
 use copy_file::{get_end, get_file};
@@ -22,7 +23,6 @@ use rand_core::Rng;
 use run_status::Status;
 use shell_runs::{Answered, Asks, Mounted};
 use std::alloc::Global;
-use tree_copy::host_folder::Folder;
 
 /// Writes the bytes of the file at this path, and says how that ended.
 fn get_told<O: Sink, V: Vault, K: Keeper, R: Rng>(
@@ -60,7 +60,7 @@ impl Asks for Get {
         Ok(())
     }
 
-    fn ask<'a, I: Source, O: Sink, F: Folder, V: Vault, K: Keeper, R: Rng>(
+    fn ask<'a, I: Source, O: Sink, F: Attributed, V: Vault, K: Keeper, R: Rng>(
         self,
         alloc: Global,
         mounted: Mounted<'a, V, K, R>,

@@ -14,6 +14,7 @@ ghost use Rattle.copy_runs.specs.Copies.{put_manner};
 
 use crate::asker::MountAsker;
 use block_id::Memory;
+use copy_attributes::host_attributes::Attributed;
 use copy_file::copy_sessions::CopyText;
 use copy_file::line_io::LineReader;
 use copy_file::session_lines::End;
@@ -24,7 +25,6 @@ use rand_core::Rng;
 use run_status::Status;
 use shell_runs::{Answered, Asks, Mounted};
 use std::alloc::Global;
-use tree_copy::host_folder::Folder;
 
 /// Puts the bytes of the input into a new file at this path, and prints how that ended.
 fn put_told<I: Source, O: Sink, V: Vault, K: Keeper, R: Rng>(
@@ -67,7 +67,7 @@ impl Asks for Put {
         CopyText::new(alloc)
     }
 
-    fn ask<'a, I: Source, O: Sink, F: Folder, V: Vault, K: Keeper, R: Rng>(
+    fn ask<'a, I: Source, O: Sink, F: Attributed, V: Vault, K: Keeper, R: Rng>(
         self,
         alloc: Global,
         mounted: Mounted<'a, V, K, R>,

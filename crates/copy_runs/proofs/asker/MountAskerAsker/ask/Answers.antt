@@ -1,7 +1,7 @@
 use Rattle.std.proofs.Common.{refl, sym, subst, ◌∷◌, []}
 use Rattle.std.specs.declared.option.Option.TheVariants.{Some}
 use Rattle.std.specs.declared.result.Result.TheVariants.{Err}
-use Rattle.tree_copy.specs.copy_laws.declared.asker.Stopped.{Stopped}
+use Rattle.copy_attributes.specs.tree_copy.copy_laws.declared.asker.Stopped.{Stopped}
 use Rattle.copy_file.specs.copy_sessions.Fitting.{WentBy}
 use Rattle.copy_file.proofs.copy_sessions_lemmas.Asked.{one_reply, one_stop}
 use Rattle.shell_runs.specs.Mounting.{mounted_hosting}

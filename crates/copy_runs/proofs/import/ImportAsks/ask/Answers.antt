@@ -2,6 +2,6 @@ use Rattle.copy_runs.proofs.import.ImportAsks.ask.Goals as goal
 
 pub returns-clause-asked : goal.returns-clause-asked
 returns-clause-asked g c =
-    let told = c.import_told-end in
-    let s = told.ensures.imported in
-    (s.0, s.1, λ old faults e. (told.ensures.same, (s.2, s.3 (record { old = old; new = g.I.Source.rest c.args.input.now; faults = faults; risen = g.I.Source.faults c.args.input.now }) e.quiet)))
+    let told = c.copy_told-end in
+    let s = told.ensures.copied in
+    (s.0, s.1, λ old faults e. let x = s.3 (record { old = old; new = g.I.Source.rest c.args.input.now; faults = faults; risen = g.I.Source.faults c.args.input.now }) e.quiet in (x.is.0, (s.2, record { qs = x.qs; tree = x.is.1.0; result = x.result; fits = x.fits; is = x.is.1.1; host = x.host; told = x.told; unfailed = x.unfailed })))
