@@ -1,6 +1,6 @@
 -- Which words are of which form.
 use Rattle.std.proofs.Common.{◌≡◌, ℕ, Bool, true, false, cond, codes, ◌&&◌, List, [], ◌∷◌, refl, sym, ap, ◌∙◌, subst}
-use Rattle.std.specs.Prelude.{option_map, is_some}
+use Rattle.std.specs.Prelude.{option_map, is_some, option_and_then}
 use Rattle.std.specs.Str.{bytes_eq}
 use Rattle.std.specs.declared.option.Option.{Option}
 use Rattle.std.specs.declared.option.Option.TheVariants.{None, Some}
@@ -10,8 +10,8 @@ use Rattle.script_text.specs.Grammar.{verb_of}
 use Rattle.program_words.specs.declared.copies.CopyKind.{CopyKind}
 use Rattle.program_words.specs.declared.copies.CopyKind.TheVariants as kind
 use Rattle.program_words.specs.declared.form.Form.{Form}
-use Rattle.program_words.specs.declared.form.Form.TheVariants.{Trial, TrialGenerate, Create, Info, Passwd, Migrate, Shell, Generate, Command, Import, Export, Put, Get, Check, Survey}
-use Rattle.program_words.specs.Forms.{count_of, single_form, plain_form, other_form, copy_kind, copy_at, copy_path, copy_or_other, form_of, is_create}
+use Rattle.program_words.specs.declared.form.Form.TheVariants.{Trial, TrialGenerate, Create, Info, Passwd, Migrate, Shell, Generate, Command, Import, Export, ImportTimes, ExportTimes, Put, Get, Check, Survey, Look}
+use Rattle.program_words.specs.Forms.{count_of, single_form, plain_form, is_looking, look_form, other_form, copy_kind, copy_at, copied, copied_to, copy_or_other, form_of, is_create, is_times, path_in, with_times}
 
 -- a form other than that of `create`
 abbrev pub IsPlain : Form → Type 0
@@ -52,22 +52,42 @@ plain_is_plain (first ∷ second ∷ third ∷ []) =
     either IsPlain (bytes_eq first (codes "trial") && bytes_eq second (codes "generate")) (option_map TrialGenerate (count_of third)) None (counted TrialGenerate (count_of third) (λ n. tt)) tt
 plain_is_plain (first ∷ second ∷ third ∷ fourth ∷ more) = tt
 
+look_is_plain : (words : List (List ℕ)) → IsIn IsPlain (look_form words)
+look_is_plain [] = tt
+look_is_plain (first ∷ []) = tt
+look_is_plain (first ∷ command ∷ words) = either IsPlain (is_looking command) (Some Look) None tt tt
+
 others : (first : List ℕ) (words : List (List ℕ)) → IsIn IsPlain (other_form first words)
-others first words = either IsPlain (is_some (verb_of first)) (Some Command) (plain_form words) tt (plain_is_plain words)
+others first words =
+    either IsPlain (is_some (verb_of first)) (Some Command) _ tt
+    (either IsPlain (bytes_eq first (codes "look")) (look_form words) (plain_form words) (look_is_plain words) (plain_is_plain words))
 
 copy_plain : (kind : CopyKind) (path : List (List ℕ)) → IsPlain (copy_at kind path)
 copy_plain kind.Import path = tt
 copy_plain kind.Export path = tt
+copy_plain kind.ImportTimes path = tt
+copy_plain kind.ExportTimes path = tt
 copy_plain kind.Put path = tt
 copy_plain kind.Get path = tt
 
-copied_plain : (kind : CopyKind) (path : Option (List (List ℕ))) → IsIn IsPlain (option_map (copy_at kind) path)
-copied_plain kind None = tt
-copied_plain kind (Some path) = copy_plain kind path
+to_plain : (kind : CopyKind) (path : Option (List (List ℕ))) → IsIn IsPlain (option_map (copy_at kind) path)
+to_plain kind None = tt
+to_plain kind (Some path) = copy_plain kind path
+
+timed_plain : (kind : Option CopyKind) (word : List ℕ) → IsIn IsPlain (option_and_then (λ timed. copied_to timed word) kind)
+timed_plain None word = tt
+timed_plain (Some kind) word = to_plain kind (path_in word)
+
+copied_plain : (kind : CopyKind) (words : List (List ℕ)) → IsIn IsPlain (copied kind words)
+copied_plain kind [] = tt
+copied_plain kind (first ∷ []) = tt
+copied_plain kind (first ∷ word ∷ []) = to_plain kind (path_in word)
+copied_plain kind (first ∷ option ∷ word ∷ []) = either IsPlain (is_times option) _ None (timed_plain (with_times kind) word) tt
+copied_plain kind (first ∷ option ∷ word ∷ other ∷ more) = tt
 
 by_copy : (copy : Option CopyKind) (first : List ℕ) (words : List (List ℕ)) → IsIn IsPlain (copy_or_other copy first words)
 by_copy None first words = others first words
-by_copy (Some kind) first words = copied_plain kind (copy_path words)
+by_copy (Some kind) first words = copied_plain kind words
 
 -- words that don't begin with `create`
 rest_plain : (first : List ℕ) (words : List (List ℕ)) → IsIn IsPlain (copy_or_other (copy_kind first) first words)

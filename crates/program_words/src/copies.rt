@@ -1,7 +1,7 @@
 // The words of copies.
-ghost use Rattle.std.specs.Prelude.{◌≡◌, true, map, IfOk, OnErr};
+ghost use Rattle.std.specs.Prelude.{◌≡◌, true, map, IfOk, IfSome, OnErr};
 ghost use Rattle.std.specs.String.{string_bytes};
-ghost use Rattle.program_words.specs.Forms.{copy_kind, copy_at, copy_path, is_pair, path_in};
+ghost use Rattle.program_words.specs.Forms.{copy_kind, copy_at, copied, copied_to, has_path, path_in, with_times, IsModest};
 
 use crate::form::Form;
 use block_id::Memory;
@@ -14,6 +14,8 @@ use std::alloc::Global;
 pub(crate) enum CopyKind {
     Import,
     Export,
+    ImportTimes,
+    ExportTimes,
     Put,
     Get,
 }
@@ -21,13 +23,27 @@ pub(crate) enum CopyKind {
 impl CopyKind {
     /// Such a copy, to or from this path.
     pub(crate) fn at(self, path: Path) -> Form
-        ensures { result ≡ copy_at self path }
+        ensures value { result ≡ copy_at self path }
+        ensures most { IsModest result }
     {
         match self {
             CopyKind::Import => Form::Import(path),
             CopyKind::Export => Form::Export(path),
+            CopyKind::ImportTimes => Form::ImportTimes(path),
+            CopyKind::ExportTimes => Form::ExportTimes(path),
             CopyKind::Put => Form::Put(path),
             CopyKind::Get => Form::Get(path),
+        }
+    }
+
+    /// The same copy that keeps modes and times, of a whole folder.
+    fn with_times(self) -> Option<CopyKind>
+        ensures { result ≡ with_times self }
+    {
+        match self {
+            CopyKind::Import => Some(CopyKind::ImportTimes),
+            CopyKind::Export => Some(CopyKind::ExportTimes),
+            _ => None,
         }
     }
 }
@@ -49,15 +65,40 @@ pub(crate) fn copy_kind(word: &str) -> Option<CopyKind>
     }
 }
 
-/// The path that a copy goes to or comes from: it is the one word after the first. None where that isn't so. Memory
-/// comes only where there are two words.
-pub(crate) fn copy_path(alloc: Global, words: &[String]) -> Result<Option<Path>, Memory>
-    ensures value { IfOk result (λ path. path ≡ copy_path (map string_bytes words.now)) }
-    ensures memory { OnErr result (is_pair (map string_bytes words.now) ≡ true) }
+/// Such a copy, where the words say its path: behind the first one, or behind `--times`. Memory comes only where there are
+/// such words.
+pub(crate) fn read_copy(
+    alloc: Global,
+    kind: CopyKind,
+    words: &[String],
+) -> Result<Option<Form>, Memory>
+    ensures value { IfOk result (λ form. form ≡ copied kind (map string_bytes words.now)) }
+    ensures most { IfOk result (λ form. IfSome form (λ form. IsModest form)) }
+    ensures memory { OnErr result (has_path (map string_bytes words.now) ≡ true) }
 {
     match words {
-        [_, word] => path_in(alloc, word.as_bytes()),
+        [_, word] => copied_to(alloc, kind, word.as_bytes()),
+        [_, option, word] => {
+            if option.as_str() != "--times" {
+                return Ok(None);
+            }
+            match kind.with_times() {
+                Some(timed) => copied_to(alloc, timed, word.as_bytes()),
+                None => Ok(None),
+            }
+        }
         _ => Ok(None),
+    }
+}
+
+/// Such a copy to or from the path that this word says.
+fn copied_to(alloc: Global, kind: CopyKind, word: &[u8]) -> Result<Option<Form>, Memory>
+    ensures value { IfOk result (λ form. form ≡ copied_to kind word.now) }
+    ensures most { IfOk result (λ form. IfSome form (λ form. IsModest form)) }
+{
+    match path_in(alloc, word)? {
+        Some(path) => Ok(Some(kind.at(path))),
+        None => Ok(None),
     }
 }
 

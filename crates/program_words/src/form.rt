@@ -28,6 +28,9 @@ pub enum Form {
     Import(Path),
     /// What stands below this path, copied into a folder of the host.
     Export(Path),
+    /// The same copies, each row with its mode and its times.
+    ImportTimes(Path),
+    ExportTimes(Path),
     /// A new file at this path, of the bytes of the input.
     Put(Path),
     /// The bytes of the file at this path, as the output.
@@ -36,4 +39,6 @@ pub enum Form {
     Check,
     /// The same, and each block that is refused where it isn't; what is kept is never marked.
     Survey,
+    /// The answer to the one line that the words behind `look` are, over the blocks that are found from the root on.
+    Look,
 }

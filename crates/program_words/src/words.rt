@@ -2,9 +2,9 @@
 ghost use Rattle.std.specs.Prelude.{◌≡◌, ◌≤◌, true, is_some, map, IfSome, IfOk, OnErr};
 ghost use Rattle.std.specs.String.{string_bytes};
 ghost use Rattle.script_text.specs.Grammar.{verb_of};
-ghost use Rattle.program_words.specs.Forms.{count_of, single_form, plain_form, copied, is_pair, other_form, form_of, takes_memory, IsModest};
+ghost use Rattle.program_words.specs.Forms.{count_of, single_form, plain_form, look_form, is_looking, other_form, form_of, takes_memory, IsModest};
 
-use crate::copies::{CopyKind, copy_kind, copy_path};
+use crate::copies::{copy_kind, read_copy};
 use crate::create_options::parse_create_options;
 use crate::form::Form;
 use block_id::Memory;
@@ -95,36 +95,24 @@ fn read_single_word(word: &str) -> Option<Form>
 
 #[tactic(auto, unfolding(crate::specs::Forms::form_of))]
 /// What the words ask for, or None where they are of no known form. Memory comes only where the first is `create`, or
-/// asks for a copy and one word follows.
+/// asks for a copy whose path follows.
 pub fn read_form(alloc: Global, words: &[String]) -> Result<Option<Form>, Memory>
     ensures value { IfOk result (λ form. form ≡ form_of (map string_bytes words.now)) }
     ensures most { IfOk result (λ form. IfSome form (λ form. IsModest form)) }
     ensures memory { OnErr result (takes_memory (map string_bytes words.now) ≡ true) }
 {
-    let [first, options @ ..] = words else {
+    let [first, others @ ..] = words else {
         return Ok(None);
     };
-    if first.as_str() != "create" {
-        return match copy_kind(first.as_str()) {
-            Some(kind) => read_copy(alloc, kind, words),
-            None => Ok(read_other_form(first.as_str(), words)),
+    if first.as_str() == "create" {
+        return match parse_create_options(alloc, others)? {
+            Some(options) => Ok(Some(Form::Create(options))),
+            None => Ok(None),
         };
     }
-    match parse_create_options(alloc, options)? {
-        Some(options) => Ok(Some(Form::Create(options))),
-        None => Ok(None),
-    }
-}
-
-/// Such a copy, where the words say its path.
-fn read_copy(alloc: Global, kind: CopyKind, words: &[String]) -> Result<Option<Form>, Memory>
-    ensures value { IfOk result (λ form. form ≡ copied kind (map string_bytes words.now)) }
-    ensures most { IfOk result (λ form. IfSome form (λ form. IsModest form)) }
-    ensures memory { OnErr result (is_pair (map string_bytes words.now) ≡ true) }
-{
-    match copy_path(alloc, words)? {
-        Some(path) => Ok(Some(kind.at(path))),
-        None => Ok(None),
+    match copy_kind(first.as_str()) {
+        Some(kind) => read_copy(alloc, kind, words),
+        None => Ok(read_other_form(first.as_str(), words)),
     }
 }
 
@@ -136,5 +124,32 @@ fn read_other_form(first: &str, words: &[String]) -> Option<Form>
     if is_command(first) {
         return Some(Form::Command);
     }
+    if first == "look" {
+        return read_look(words);
+    }
     read_plain_form(words)
+}
+
+/// A look, where a command that only looks follows.
+fn read_look(words: &[String]) -> Option<Form>
+    ensures value { result ≡ look_form (map string_bytes words.now) }
+    ensures most { IfSome result (λ form. IsModest form) }
+{
+    match words {
+        [_, command, ..] => {
+            if is_looking(command.as_str()) {
+                Some(Form::Look)
+            } else {
+                None
+            }
+        }
+        _ => None,
+    }
+}
+
+/// `ls`, `stat`, `readlink` or `read`.
+fn is_looking(word: &str) -> bool
+    ensures { result ≡ is_looking word.now }
+{
+    word == "ls" || word == "stat" || word == "readlink" || word == "read"
 }
