@@ -15,7 +15,7 @@ use Rattle.program_words.specs.Forms.{form_of}
 use Rattle.cryfs_shell.specs.Clauses.{IsRefusedRun, NoFalseAlarm, KeepsTree, FaultsNamed, TellsFaults, StatusSays, Spares}
 use Rattle.cryfs_shell.specs.Doing.{Did, IsCaused}
 use Rattle.cryfs_shell.specs.History.{HasHistory}
-use Rattle.cryfs_shell.specs.Kinds.{is_session, is_migration, opens, draws, copies, seals}
+use Rattle.cryfs_shell.specs.Kinds.{is_session, is_migration, is_look, heeds_mark, opens, draws, copies, seals}
 use Rattle.cryfs_shell.specs.Streams.{Streams}
 use Rattle.cryfs_shell.proofs.Doing.{the_form, doing_faults, doing_refusal, doing_alarm, doing_keeps, doing_emptied, doing_uncalled, doing_usage, doing_host}
 use Rattle.cryfs_shell.proofs.CallRuns.{other_form, doing_history}
@@ -27,11 +27,11 @@ module _ {V : Type 0} {K : Type 0} (trace : V → Option (List Call)) (faults : 
   pub asked_did : Did trace faults names G words now s vault keeper ended (form_of words)
   asked_did = subst (λ (asked : Option Form). Did trace faults names G words now s vault keeper ended asked) is did
 
-  pub asked_refusal : opens (form_of words) ≡ true → IsKeptMarked records (G.kept keeper) → IsRefusedRun G.kept s.output vault keeper ended
-  asked_refusal e marked = doing_refusal trace faults names G words now s vault keeper ended form (ap opens is ∙ e) did caused marked
+  pub asked_refusal : heeds_mark (form_of words) ≡ true → IsKeptMarked records (G.kept keeper) → IsRefusedRun G.kept s.output vault keeper ended
+  asked_refusal e marked = doing_refusal trace faults names G words now s vault keeper ended form (ap heeds_mark is ∙ e) did caused marked
 
-  pub asked_alarm : NoFalseAlarm s.input (outside_of trace faults G vault keeper) (outside_of trace faults G ended.vault ended.keeper) ended.status
-  asked_alarm = doing_alarm trace faults names G words now s vault keeper ended form did caused
+  pub asked_alarm : is_look (form_of words) ≡ false → NoFalseAlarm s.input (outside_of trace faults G vault keeper) (outside_of trace faults G ended.vault ended.keeper) ended.status
+  asked_alarm e = doing_alarm trace faults names G words now s vault keeper ended form (ap is_look is ∙ e) did caused
 
   pub asked_keeps : opens (form_of words) ≡ true → KeepsTree s.input (outside_of trace faults G vault keeper) (outside_of trace faults G ended.vault ended.keeper)
   asked_keeps e = doing_keeps trace faults names G words now s vault keeper ended form (ap opens is ∙ e) did caused

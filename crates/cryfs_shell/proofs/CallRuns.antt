@@ -1,5 +1,5 @@
 -- Each call is a run of one file system.
-use Rattle.std.proofs.Common.{◌≡◌, ℕ, Bool, false, List, [], refl, sym, subst, inl, inr}
+use Rattle.std.proofs.Common.{◌≡◌, ℕ, Bool, true, false, List, [], refl, sym, subst, inl, inr}
 use Rattle.std.specs.declared.option.Option.{Option}
 use Rattle.std.specs.declared.option.Option.TheVariants.{Some}
 use Rattle.rand_core.specs.Stream.{Stream as Chance}
@@ -13,7 +13,7 @@ use Rattle.check_runs.specs.setup_runs.Info.{Told}
 use Rattle.check_runs.specs.setup_runs.Migrate.{RanMigrate}
 use Rattle.check_runs.specs.setup_runs.Passwd.{RanPasswd}
 use Rattle.fs_model.specs.Instant.{Instant}
-use Rattle.session_laws.specs.Histories.{Run, session, quiet, examined, migrated}
+use Rattle.session_laws.specs.Histories.{Run, session, quiet, examined, migrated, looked}
 use Rattle.trial_runs.specs.line_io.Streams.{Stream}
 use Rattle.outside.specs.Trace.{Call}
 use Rattle.outside.specs.declared.keeper.Keeper.{Ghosts as KeeperGhosts}
@@ -24,7 +24,7 @@ use Rattle.trial_runs.specs.session_lines.declared.end.End.{End}
 use Rattle.session_laws.specs.Runs.{Outside, outside_of, IsQuietRun}
 use Rattle.copy_runs.specs.shell_runs.Sessions.{Session}
 use Rattle.program_words.specs.declared.form.Form.{Form}
-use Rattle.program_words.specs.declared.form.Form.TheVariants.{Trial, TrialGenerate, Create, Info, Passwd, Migrate, Shell, Generate, Command, Import, Export, Put, Get, Check, Survey}
+use Rattle.program_words.specs.declared.form.Form.TheVariants.{Trial, TrialGenerate, Create, Info, Passwd, Migrate, Shell, Generate, Command, Import, Export, ImportTimes, ExportTimes, Put, Get, Check, Survey, Look}
 use Rattle.program_words.specs.Forms.{form_of, is_create}
 use Rattle.program_words.proofs.FormsOf.{IsPlain, other_is_other}
 use Rattle.check_runs.specs.mount_core.Showing.{ShowsFiles}
@@ -32,6 +32,7 @@ use Rattle.cryfs_shell.proofs.Checks.{ends_by, bad_by}
 use Rattle.cryfs_shell.proofs.Migrations as migrations
 use Rattle.check_runs.specs.mount_migrating.Migrating.{told}
 use Rattle.cryfs_shell.specs.Doing.{Did}
+use Rattle.cryfs_shell.specs.Kinds.{is_look}
 use Rattle.cryfs_shell.specs.Streams.{Streams}
 use Rattle.cryfs_shell.specs.History.{Comes, Judges, Meets, IsRunOf}
 
@@ -39,7 +40,7 @@ use Rattle.cryfs_shell.specs.History.{Comes, Judges, Meets, IsRunOf}
 still : (password : List ℕ) (o : Outside) → IsQuietRun ShowsFiles password o o
 still password o = record { stands = λ c tree f. f.stands; marked = λ m. (refl, refl); least = λ least takes. takes }
 
-module _ {V : Type 0} {K : Type 0} (trace : V → Option (List Call)) (faults : V → ℕ) (G : KeeperGhosts K) (given : Stream) (Came : Option (List ℕ) → End → Status → List Exchange → Type 0) (Judged Met : Bool → Type 0) (vault : V) (keeper : K) (ended : Ended V K) where
+module _ {V : Type 0} {K : Type 0} (trace : V → Option (List Call)) (faults : V → ℕ) (G : KeeperGhosts K) (given : Stream) (Came : Option (List ℕ) → End → Status → List Exchange → Type 0) (Judged Met : Bool → Type 0) (Looks : Type 0) (vault : V) (keeper : K) (ended : Ended V K) where
   abbrev Before : Outside
   Before = outside_of trace faults G vault keeper
 
@@ -47,7 +48,7 @@ module _ {V : Type 0} {K : Type 0} (trace : V → Option (List Call)) (faults : 
   After = outside_of trace faults G ended.vault ended.keeper
 
   abbrev History : Type 0
-  History = (run : Run) × IsRunOf given Came Judged Met Before After run
+  History = (run : Run) × IsRunOf given Came Judged Met Looks Before After run
 
   quietly : (password : List ℕ) → IsQuietRun ShowsFiles password Before After → History
   quietly password q = (quiet password Before After, record { is_run = q; came = tt; begins = refl; ends = refl })
@@ -108,30 +109,36 @@ other_form words (Generate count) e other = tt
 other_form words Command e other = tt
 other_form words (Import path) e other = tt
 other_form words (Export path) e other = tt
+other_form words (ImportTimes path) e other = tt
+other_form words (ExportTimes path) e other = tt
 other_form words (Put path) e other = tt
 other_form words (Get path) e other = tt
 other_form words Check e other = tt
 other_form words Survey e other = tt
+other_form words Look e other = tt
 
 -- ---- by its form
 
 module _ {V : Type 0} {K : Type 0} (trace : V → Option (List Call)) (faults : V → ℕ) (names : V → Option (List (List ℕ))) (G : KeeperGhosts K) (words : List (List ℕ)) (now : Instant) (s : Streams) (vault : V) (keeper : K) (ended : Ended V K) where
   abbrev Done : Form → Type 0
-  Done form = History trace faults G s.input (Comes words now s (Some form)) (Judges (Some form) ended.status) (Meets (Some form) ended.status) vault keeper ended
+  Done form = History trace faults G s.input (Comes words now s (Some form)) (Judges (Some form) ended.status) (Meets (Some form) ended.status) (is_look (Some form) ≡ true) vault keeper ended
 
   pub doing_history : (form : Form) → IsPlain form → Did trace faults names G words now s vault keeper ended (Some form) → Done form
-  doing_history Trial p d = idly trace faults G s.input (Comes words now s (Some Trial)) (Judges (Some Trial) ended.status) (Meets (Some Trial) ended.status) vault keeper ended d.1
-  doing_history (TrialGenerate count) p d = idly trace faults G s.input (Comes words now s (Some (TrialGenerate count))) (Judges (Some (TrialGenerate count)) ended.status) (Meets (Some (TrialGenerate count)) ended.status) vault keeper ended d.2
+  doing_history Trial p d = idly trace faults G s.input (Comes words now s (Some Trial)) (Judges (Some Trial) ended.status) (Meets (Some Trial) ended.status) (is_look (Some Trial) ≡ true) vault keeper ended d.1
+  doing_history (TrialGenerate count) p d = idly trace faults G s.input (Comes words now s (Some (TrialGenerate count))) (Judges (Some (TrialGenerate count)) ended.status) (Meets (Some (TrialGenerate count)) ended.status) (is_look (Some (TrialGenerate count)) ≡ true) vault keeper ended d.2
   doing_history (Create options) p d = absurd p
-  doing_history Info p d = told_history trace faults G s.input (Comes words now s (Some Info)) (Judges (Some Info) ended.status) (Meets (Some Info) ended.status) vault keeper ended s.input s.output d
-  doing_history Passwd p d = changed_history trace faults G s.input (Comes words now s (Some Passwd)) (Judges (Some Passwd) ended.status) (Meets (Some Passwd) ended.status) vault keeper ended s.chance s.left s.input s.output d
-  doing_history Migrate p d = migrated_history trace faults G s.input (Comes words now s (Some Migrate)) (Judges (Some Migrate) ended.status) (Meets (Some Migrate) ended.status) vault keeper ended s.input s.output (λ bad j. j) d
-  doing_history Shell p d = session_history trace faults G s.input (Comes words now s (Some Shell)) (Judges (Some Shell) ended.status) (Meets (Some Shell) ended.status) vault keeper ended s.output d
-  doing_history (Generate count) p d = session_history trace faults G s.input (Comes words now s (Some (Generate count))) (Judges (Some (Generate count)) ended.status) (Meets (Some (Generate count)) ended.status) vault keeper ended s.output d
-  doing_history Command p d = session_history trace faults G s.input (Comes words now s (Some Command)) (Judges (Some Command) ended.status) (Meets (Some Command) ended.status) vault keeper ended s.output d
-  doing_history (Import path) p d = session_history trace faults G s.input (Comes words now s (Some (Import path))) (Judges (Some (Import path)) ended.status) (Meets (Some (Import path)) ended.status) vault keeper ended s.output d.0
-  doing_history (Export path) p d = session_history trace faults G s.input (Comes words now s (Some (Export path))) (Judges (Some (Export path)) ended.status) (Meets (Some (Export path)) ended.status) vault keeper ended s.output d.0
-  doing_history (Put path) p d = session_history trace faults G s.input (Comes words now s (Some (Put path))) (Judges (Some (Put path)) ended.status) (Meets (Some (Put path)) ended.status) vault keeper ended s.output d
-  doing_history (Get path) p d = session_history trace faults G s.input (Comes words now s (Some (Get path))) (Judges (Some (Get path)) ended.status) (Meets (Some (Get path)) ended.status) vault keeper ended s.output d
-  doing_history Check p d = checked_history trace faults G s.input (Comes words now s (Some Check)) (Judges (Some Check) ended.status) (Meets (Some Check) ended.status) vault keeper ended names s.input s.output (λ bad j. j) d
-  doing_history Survey p d = surveyed_history trace faults G s.input (Comes words now s (Some Survey)) (Judges (Some Survey) ended.status) (Meets (Some Survey) ended.status) vault keeper ended names s.input s.output d
+  doing_history Info p d = told_history trace faults G s.input (Comes words now s (Some Info)) (Judges (Some Info) ended.status) (Meets (Some Info) ended.status) (is_look (Some Info) ≡ true) vault keeper ended s.input s.output d
+  doing_history Passwd p d = changed_history trace faults G s.input (Comes words now s (Some Passwd)) (Judges (Some Passwd) ended.status) (Meets (Some Passwd) ended.status) (is_look (Some Passwd) ≡ true) vault keeper ended s.chance s.left s.input s.output d
+  doing_history Migrate p d = migrated_history trace faults G s.input (Comes words now s (Some Migrate)) (Judges (Some Migrate) ended.status) (Meets (Some Migrate) ended.status) (is_look (Some Migrate) ≡ true) vault keeper ended s.input s.output (λ bad j. j) d
+  doing_history Shell p d = session_history trace faults G s.input (Comes words now s (Some Shell)) (Judges (Some Shell) ended.status) (Meets (Some Shell) ended.status) (is_look (Some Shell) ≡ true) vault keeper ended s.output d
+  doing_history (Generate count) p d = session_history trace faults G s.input (Comes words now s (Some (Generate count))) (Judges (Some (Generate count)) ended.status) (Meets (Some (Generate count)) ended.status) (is_look (Some (Generate count)) ≡ true) vault keeper ended s.output d
+  doing_history Command p d = session_history trace faults G s.input (Comes words now s (Some Command)) (Judges (Some Command) ended.status) (Meets (Some Command) ended.status) (is_look (Some Command) ≡ true) vault keeper ended s.output d
+  doing_history (Import path) p d = session_history trace faults G s.input (Comes words now s (Some (Import path))) (Judges (Some (Import path)) ended.status) (Meets (Some (Import path)) ended.status) (is_look (Some (Import path)) ≡ true) vault keeper ended s.output d.0
+  doing_history (Export path) p d = session_history trace faults G s.input (Comes words now s (Some (Export path))) (Judges (Some (Export path)) ended.status) (Meets (Some (Export path)) ended.status) (is_look (Some (Export path)) ≡ true) vault keeper ended s.output d.0
+  doing_history (ImportTimes path) p d = session_history trace faults G s.input (Comes words now s (Some (ImportTimes path))) (Judges (Some (ImportTimes path)) ended.status) (Meets (Some (ImportTimes path)) ended.status) (is_look (Some (ImportTimes path)) ≡ true) vault keeper ended s.output d.0
+  doing_history (ExportTimes path) p d = session_history trace faults G s.input (Comes words now s (Some (ExportTimes path))) (Judges (Some (ExportTimes path)) ended.status) (Meets (Some (ExportTimes path)) ended.status) (is_look (Some (ExportTimes path)) ≡ true) vault keeper ended s.output d.0
+  doing_history (Put path) p d = session_history trace faults G s.input (Comes words now s (Some (Put path))) (Judges (Some (Put path)) ended.status) (Meets (Some (Put path)) ended.status) (is_look (Some (Put path)) ≡ true) vault keeper ended s.output d
+  doing_history (Get path) p d = session_history trace faults G s.input (Comes words now s (Some (Get path))) (Judges (Some (Get path)) ended.status) (Meets (Some (Get path)) ended.status) (is_look (Some (Get path)) ≡ true) vault keeper ended s.output d
+  doing_history Check p d = checked_history trace faults G s.input (Comes words now s (Some Check)) (Judges (Some Check) ended.status) (Meets (Some Check) ended.status) (is_look (Some Check) ≡ true) vault keeper ended names s.input s.output (λ bad j. j) d
+  doing_history Survey p d = surveyed_history trace faults G s.input (Comes words now s (Some Survey)) (Judges (Some Survey) ended.status) (Meets (Some Survey) ended.status) (is_look (Some Survey) ≡ true) vault keeper ended names s.input s.output d
+  doing_history Look p d = (looked (outside_of trace faults G vault keeper) (outside_of trace faults G ended.vault ended.keeper), record { is_run = d.looked; came = refl; begins = refl; ends = refl })

@@ -2,6 +2,7 @@
 use Rattle.std.proofs.Common.{◌≡◌, ◌⊎◌, ℕ, List, ap, inl, inr}
 use Rattle.std.specs.declared.option.Option.{Option}
 use Rattle.trial_runs.specs.answers.Sessions.{Exchange}
+use Rattle.fs_model.specs.Tree.{Tree}
 use Rattle.copy_runs.specs.host_folder.Folders.{HostTree}
 use Rattle.trial_runs.specs.line_io.Streams.{Stream}
 use Rattle.outside.specs.Trace.{Call}
@@ -35,7 +36,7 @@ module _ {V : Type 0} {K : Type 0} (trace : V → Option (List Call)) (faults : 
 
 -- a session that left the folder of the host as it was, or opened a file system
 pub host_session : {V : Type 0} {K : Type 0} (trace : V → Option (List Call)) (faults : V → ℕ) (G : KeeperGhosts K) (input : Stream) (vault : V) (keeper : K) (ended : Ended V K)
-    (Came : Option (List ℕ) → End → Status → List Exchange → Type 0) (output : Stream) {F : Type 0} (tree : F → Option HostTree) (count : F → ℕ) (old new : F) → Session trace faults G Came input output vault keeper ended
-    → (new ≡ old) ⊎ WasServed trace faults G Came input vault keeper ended → HostSession trace faults G Came input output (host_of tree count old new) vault keeper ended
-host_session trace faults G input vault keeper ended Came output tree count old new session (inl same) = (session, inl (ap tree same, ap count same))
-host_session trace faults G input vault keeper ended Came output tree count old new session (inr s) = (session, inr s)
+    (Came : Option (List ℕ) → End → Status → List Exchange → Type 0) (output : Stream) {F : Type 0} (tree : F → Option HostTree) (attributes : F → Option Tree) (count : F → ℕ) (old new : F) → Session trace faults G Came input output vault keeper ended
+    → (new ≡ old) ⊎ WasServed trace faults G Came input vault keeper ended → HostSession trace faults G Came input output (host_of tree attributes count old new) vault keeper ended
+host_session trace faults G input vault keeper ended Came output tree attributes count old new session (inl same) = (session, inl (record { same = ap tree same; attributes = ap attributes same; quiet = ap count same }))
+host_session trace faults G input vault keeper ended Came output tree attributes count old new session (inr s) = (session, inr s)

@@ -13,13 +13,15 @@ use Rattle.run_status.specs.declared.status.Status.TheVariants.{Done, Usage, Vio
 use Rattle.session_laws.specs.Openings.{AreUncalled, IsUnread}
 use Rattle.session_laws.specs.Runs.{outside_of}
 use Rattle.program_words.specs.declared.form.Form.{Form}
-use Rattle.program_words.specs.declared.form.Form.TheVariants.{Trial, TrialGenerate, Create, Info, Passwd, Migrate, Shell, Generate, Command, Import, Export, Put, Get, Check, Survey}
+use Rattle.program_words.specs.declared.form.Form.TheVariants.{Trial, TrialGenerate, Create, Info, Passwd, Migrate, Shell, Generate, Command, Import, Export, ImportTimes, ExportTimes, Put, Get, Check, Survey, Look}
 use Rattle.program_words.specs.Forms.{takes_memory}
 use Rattle.cryfs_shell.specs.Clauses.{IsRefusingStatus, IsRefusedRun, NoFalseAlarm, KeepsTree, TellsFaults, StatusSays}
 use Rattle.cryfs_shell.specs.Doing.{Did}
 use Rattle.cryfs_shell.specs.History.{Comes, Judges, Meets, HasHistory}
 use Rattle.copy_runs.specs.shell_runs.Hosts.{IsStill}
+use Rattle.cryfs_shell.specs.Kinds.{is_look}
 use Rattle.cryfs_shell.specs.Streams.{Streams}
+use Rattle.cryfs_shell.proofs.Looks.{uncalled_looks}
 use Rattle.cryfs_shell.proofs.CallRuns.{idly}
 use Rattle.cryfs_shell.proofs.Sessions.{one_unread, unread_keeps, stays_grown}
 use Rattle.block_id.proofs.Conditions.{no_fewer}
@@ -51,7 +53,7 @@ module _ {V : Type 0} {K : Type 0} (trace : V → Option (List Call)) (faults : 
       output_fault = λ e. absurd (idle_is_no ended.status OutputFault idle (λ h. h) e);
     };
     host_faults_happened = record {
-      grows = no_fewer s.host.faults s.host.risen still.1;
+      grows = no_fewer s.host.faults s.host.risen still.quiet;
       host_fault = λ e. absurd (idle_is_no ended.status HostFault idle (λ h. h) e);
     };
     faults_named = λ _. record {
@@ -66,7 +68,7 @@ module _ {V : Type 0} {K : Type 0} (trace : V → Option (List Call)) (faults : 
   idle_statuses asked usage = record { usage = usage; uncalled = λ e. uncalled; done = λ q e. absurd (idle_is_no ended.status Done idle (λ h. h) e) }
 
   pub idle_history : HasHistory words now s (outside_of trace faults G vault keeper) (outside_of trace faults G ended.vault ended.keeper) ended.status
-  idle_history form e other = idly trace faults G s.input (Comes words now s (Some form)) (Judges (Some form) ended.status) (Meets (Some form) ended.status) vault keeper ended uncalled
+  idle_history form e other = idly trace faults G s.input (Comes words now s (Some form)) (Judges (Some form) ended.status) (Meets (Some form) ended.status) (is_look (Some form) ≡ true) vault keeper ended uncalled
 
   -- ---- where memory was refused
 
@@ -90,10 +92,13 @@ module _ {V : Type 0} {K : Type 0} (trace : V → Option (List Call)) (faults : 
     memory_did takes (Some Command) = inl one
     memory_did takes (Some (Import path)) = (inl one, inl still)
     memory_did takes (Some (Export path)) = (inl one, inl still)
+    memory_did takes (Some (ImportTimes path)) = (inl one, inl still)
+    memory_did takes (Some (ExportTimes path)) = (inl one, inl still)
     memory_did takes (Some (Put path)) = inl one
     memory_did takes (Some (Get path)) = inl one
     memory_did takes (Some Check) = inl one
     memory_did takes (Some Survey) = inl one
+    memory_did takes (Some Look) = record { ran = inl one; looked = uncalled_looks trace faults G vault keeper ended uncalled; same_keeper = uncalled.same_keeper }
 
     pub memory_refusal : IsRefusedRun G.kept s.output vault keeper ended
     memory_refusal = record { status = subst IsRefusingStatus (sym m) tt; uncalled = uncalled.same_vault; stays = ap G.kept uncalled.same_keeper; unwritten = unwritten }

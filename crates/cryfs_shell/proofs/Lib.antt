@@ -6,6 +6,7 @@ pub mod Setups
 pub mod Checks
 pub mod Surveys
 pub mod Migrations
+pub mod Looks
 pub mod TrialEnds
 pub mod Doing
 pub mod Naming

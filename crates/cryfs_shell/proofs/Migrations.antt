@@ -59,7 +59,7 @@ memory_closing false line_end.Finished (Err sync_error.Memory) e = (refl, refl, 
 memory_closing false line_end.Finished (Err sync_error.FaultDirectory) e = absurd (cc)
 memory_closing false line_end.Finished (Err sync_error.FaultState) e = absurd (cc)
 
-session_host : (bad : Bool) (end : End) (closing : Result Unit SyncError) → session_status bad end closing ≡ HostFault → ⊥
+pub session_host : (bad : Bool) (end : End) (closing : Result Unit SyncError) → session_status bad end closing ≡ HostFault → ⊥
 session_host true end closing e = cc
 session_host false line_end.OutputFault closing e = cc
 session_host false line_end.InputFault closing e = cc

@@ -52,12 +52,13 @@ use Rattle.session_laws.specs.record_saver.declared.saver.SyncError.{SyncError}
 use Rattle.session_laws.specs.record_saver.declared.saver.SyncError.TheVariants as sync_error
 use Rattle.copy_runs.specs.shell_runs.Sessions.{Session, ComesShell, ComesGenerated, ComesCommand}
 use Rattle.program_words.specs.declared.form.Form.{Form}
-use Rattle.program_words.specs.declared.form.Form.TheVariants.{Trial, TrialGenerate, Create, Info, Passwd, Migrate, Shell, Generate, Command, Import, Export, Put, Get, Check, Survey}
+use Rattle.program_words.specs.declared.form.Form.TheVariants.{Trial, TrialGenerate, Create, Info, Passwd, Migrate, Shell, Generate, Command, Import, Export, ImportTimes, ExportTimes, Put, Get, Check, Survey, Look}
 use Rattle.program_words.specs.Forms.{joined}
 use Rattle.cryfs_shell.proofs.Checks.{state_named, output_named}
 use Rattle.cryfs_shell.proofs.Migrations.{memory_named, or_done}
+use Rattle.looking.specs.Runs.{RanLook}
 use Rattle.cryfs_shell.specs.Clauses.{FaultsNamed, MayHide, MayHideState, StreamFaultsNamed}
-use Rattle.copy_runs.specs.Copies.{Imports, Exports}
+use Rattle.copy_runs.specs.Copies.{Imports, Exports, ImportsTimes, ExportsTimes}
 use Rattle.cryfs_shell.specs.Doing.{Did}
 use Rattle.copy_runs.specs.shell_runs.Hosts.{HostSeen}
 use Rattle.cryfs_shell.specs.Kinds.{is_session}
@@ -319,6 +320,14 @@ module _ (input output : Stream) where
         let status = session_status (is_violation (told m.migration)) m.end m.closing in
         served_named (is_violation (told m.migration)) m.end m.closing Done ended.status (m.status ∙ or_done status) (reported_quiet input output _ m.end unfailed m.reported)
 
+    looked_streams : (now : Instant) (line : List ℕ) → RanLook trace faults now line input output vault keeper ended → StreamsNamed
+    looked_streams now line (inl u) = unread_one u
+    looked_streams now line (inr (password, after, has, unfailed, inl vain)) = neither ended.status unfailed vain.unwritten.1
+    looked_streams now line (inr (password, after, has, unfailed, inr at)) =
+        let a = at.answered in
+        let status = session_status (is_violation a.answer) a.end (Ok tt) in
+        served_named (is_violation a.answer) a.end (Ok tt) Done ended.status (a.status_is ∙ or_done status) (reported_quiet input output _ a.end unfailed a.written)
+
     session_streams : (Came : Option (List ℕ) → End → Status → List Exchange → Type 0) → ((script : Option (List ℕ)) (end : End) (own : Status) (es : List Exchange) → Came script end own es → EndQuiet end input output)
         → Session trace faults G Came input output vault keeper ended → StreamsNamed
     session_streams Came quiet (inl u) = unread_one u
@@ -358,10 +367,13 @@ module _ {V : Type 0} {K : Type 0} (trace : V → Option (List Call)) (faults : 
   doing_named Command e d = absurd (cc)
   doing_named (Import path) e d = absurd (cc)
   doing_named (Export path) e d = absurd (cc)
+  doing_named (ImportTimes path) e d = absurd (cc)
+  doing_named (ExportTimes path) e d = absurd (cc)
   doing_named (Put path) e d = absurd (cc)
   doing_named (Get path) e d = absurd (cc)
   doing_named Check e d = checked_named trace faults G input output vault keeper ended names d
   doing_named Survey e d = surveyed_named trace faults G input output vault keeper ended names d
+  doing_named Look e d = record { directory_quiet = λ shown. absurd (shown tt); state_quiet = λ shown. absurd (shown tt); memory = λ m. inr (ap G.faults d.same_keeper) }
 
   pub doing_streams : (form : Form) → Doing form → StreamFaultsNamed input output ended.status
   doing_streams Trial d = tried_named input output now ended.status d.0
@@ -378,9 +390,14 @@ module _ {V : Type 0} {K : Type 0} (trace : V → Option (List Call)) (faults : 
       session_streams input output trace faults G vault keeper ended (Imports now path host input output) (λ script end own es came. reported_quiet input output _ end came.1.1.unfailed came.1.1.told.written) d.0
   doing_streams (Export path) d =
       session_streams input output trace faults G vault keeper ended (Exports now path host input output) (λ script end own es came. reported_quiet input output _ end came.1.unfailed came.1.told.written) d.0
+  doing_streams (ImportTimes path) d =
+      session_streams input output trace faults G vault keeper ended (ImportsTimes now path host input output) (λ script end own es came. reported_quiet input output _ end came.1.1.unfailed came.1.1.told.written) d.0
+  doing_streams (ExportTimes path) d =
+      session_streams input output trace faults G vault keeper ended (ExportsTimes now path host input output) (λ script end own es came. reported_quiet input output _ end came.1.unfailed came.1.told.written) d.0
   doing_streams (Put path) d =
       session_streams input output trace faults G vault keeper ended (ComesPut now path input output) (λ script end own es came. put_quiet path script input output end own es came.1) d
   doing_streams (Get path) d =
       session_streams input output trace faults G vault keeper ended (ComesGet now path input output) (λ script end own es came. get_quiet path input output end own es came.1) d
   doing_streams Check d = checked_streams input output trace faults G vault keeper ended names d
   doing_streams Survey d = surveyed_streams input output trace faults G vault keeper ended names d
+  doing_streams Look d = looked_streams input output trace faults G vault keeper ended now _ d.ran

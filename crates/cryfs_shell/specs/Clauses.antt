@@ -21,7 +21,7 @@ use Rattle.session_laws.specs.Openings.{AreUncalled}
 use Rattle.session_laws.specs.Drawing.{DrawsAs}
 use Rattle.session_laws.specs.Runs.{Outside, outside_of, OutsideStandsFor, OpensTo, OpensOnlyTo, forgeries, lies}
 use Rattle.program_words.specs.declared.form.Form.{Form}
-use Rattle.program_words.specs.declared.form.Form.TheVariants.{Passwd, Migrate, Check, Survey}
+use Rattle.program_words.specs.declared.form.Form.TheVariants.{Passwd, Migrate, Check, Survey, Look}
 use Rattle.copy_runs.specs.shell_runs.Hosts.{HostSeen}
 use Rattle.cryfs_shell.specs.Kinds.{is_session, is_migration, copies, draws, seals}
 use Rattle.cryfs_shell.specs.Streams.{Streams}
@@ -77,10 +77,11 @@ pub record FaultsHappened (input output : Stream) (before after : Outside) (stat
   pub input_fault : status ≡ InputFault → InputFailed input
   pub output_fault : status ≡ OutputFault → HasFailed output
 
--- a status that may be the error of the change of a password, behind which a fault that closing met is hidden; each status of `migrate`, whose line names its fault as that of a session; and those of `check --all` that may stand
+-- a status that may be the error of the change of a password, behind which a fault that closing met is hidden; each status of `migrate` and of a look, whose line names its fault as that of a session; and those of `check --all` that may stand
 -- behind lines of blocks, which name their faults
 abbrev pub MayHide : Option Form → Status → Type 0
 MayHide (Some Migrate) status = Unit {0}
+MayHide (Some Look) status = Unit {0}
 MayHide (Some Passwd) Memory = Unit {0}
 MayHide (Some Passwd) DirectoryFault = Unit {0}
 MayHide (Some Passwd) StateFault = Unit {0}
@@ -96,7 +97,7 @@ MayHideState (Some Survey) status = ⊥
 MayHideState form status = MayHide form status
 
 -- Of a run that is no session no fault of the directory or the record is passed over: where the status doesn't name it, that count is as it was; but the error of the change in
--- `passwd` may hide one that closing met, the violation of a check one of its mark, and that of `migrate` and of `check --all` is named by its lines. Behind want of memory at most one of the two counts rose.
+-- `passwd` may hide one that closing met, the violation of a check one of its mark, and that of `migrate`, of a look and of `check --all` is named by its lines. Behind want of memory at most one of the two counts rose.
 pub record FaultsNamed (form : Option Form) (before after : Outside) (status : Status) : Type 0 where
   pub directory_quiet : ¬ MayHide form status → status ≢ DirectoryFault → after.vault_faults ≡ before.vault_faults
   pub state_quiet : ¬ MayHideState form status → status ≢ StateFault → after.keeper_faults ≡ before.keeper_faults

@@ -1,11 +1,11 @@
 -- What the words make a run do.
-use Rattle.std.specs.Prelude.{◌≡◌, ◌⊎◌, ◌||◌, ℕ, Bool, true, false, List}
+use Rattle.std.specs.Prelude.{◌≡◌, ◌⊎◌, ◌||◌, ◌&&◌, not, ℕ, Bool, true, false, List}
 use Rattle.std.specs.declared.option.Option.{Option}
 use Rattle.std.specs.declared.option.Option.TheVariants.{None, Some}
 use Rattle.run_status.specs.declared.status.Status.{Status}
 use Rattle.run_status.specs.declared.status.Status.TheVariants.{Usage, Memory}
 use Rattle.program_words.specs.declared.form.Form.{Form}
-use Rattle.program_words.specs.declared.form.Form.TheVariants.{Trial, TrialGenerate, Info, Passwd, Migrate, Shell, Generate, Command, Import, Export, Put, Get, Check, Survey}
+use Rattle.program_words.specs.declared.form.Form.TheVariants.{Trial, TrialGenerate, Info, Passwd, Migrate, Shell, Generate, Command, Import, Export, ImportTimes, ExportTimes, Put, Get, Check, Survey, Look}
 use Rattle.program_words.specs.Forms.{takes_memory}
 
 -- words of no form are refused; where they begin with `create` or ask for a copy, memory may be refused while they are read
@@ -19,6 +19,8 @@ is_session (Some (Generate count)) = true
 is_session (Some Command) = true
 is_session (Some (Import path)) = true
 is_session (Some (Export path)) = true
+is_session (Some (ImportTimes path)) = true
+is_session (Some (ExportTimes path)) = true
 is_session (Some (Put path)) = true
 is_session (Some (Get path)) = true
 is_session _ = false
@@ -33,7 +35,12 @@ abbrev pub is_migration : Option Form → Bool
 is_migration (Some Migrate) = true
 is_migration _ = false
 
--- a file system is opened under a password
+-- the found blocks are looked at, without the record
+abbrev pub is_look : Option Form → Bool
+is_look (Some Look) = true
+is_look _ = false
+
+-- a file system is opened under a password, or looked at
 abbrev pub opens : Option Form → Bool
 opens (Some Info) = true
 opens (Some Passwd) = true
@@ -43,11 +50,18 @@ opens (Some (Generate count)) = true
 opens (Some Command) = true
 opens (Some (Import path)) = true
 opens (Some (Export path)) = true
+opens (Some (ImportTimes path)) = true
+opens (Some (ExportTimes path)) = true
 opens (Some (Put path)) = true
 opens (Some (Get path)) = true
 opens (Some Check) = true
 opens (Some Survey) = true
+opens (Some Look) = true
 opens _ = false
+
+-- a marked record holds it back: all that opens a file system but a look, which uses no record
+abbrev pub heeds_mark : Option Form → Bool
+heeds_mark asked = opens asked && not (is_look asked)
 
 -- blocks' files may be sealed, beside the one that `create` seals
 abbrev pub seals : Option Form → Bool
@@ -61,10 +75,13 @@ draws (Some (TrialGenerate count)) = false
 draws (Some Info) = false
 draws (Some Check) = false
 draws (Some Survey) = false
+draws (Some Look) = false
 draws _ = true
 
 -- the host folder may be called
 abbrev pub copies : Option Form → Bool
 copies (Some (Import path)) = true
 copies (Some (Export path)) = true
+copies (Some (ImportTimes path)) = true
+copies (Some (ExportTimes path)) = true
 copies _ = false

@@ -15,85 +15,85 @@ pub returns-in-Err-clause-did : goal.returns-in-Err-clause-did
 returns-in-Err-clause-did g c =
     memory_did g.V.Vault.trace g.V.Vault.faults g.V.Listing.names g.K.Keeper (map string_bytes c.args.request.words.now) c.args.request.now
     (streams_of (stream_of g.I.Source.rest g.I.Source.faults c.args.input.now c.args.input.now) (stream_of g.O.Sink.written g.O.Sink.faults c.args.output.now c.args.output.now)
-    (host_of g.F.Folder.tree g.F.Folder.faults c.args.host.now c.args.host.now) (g.R.Rng.stream c.args.chance.now) (g.R.Rng.stream c.args.chance.now))
-    c.args.storage.vault c.args.storage.keeper (record { status = Memory; vault = c.args.storage.vault; keeper = c.args.storage.keeper }) (refl, refl) (refl, refl) (refl, refl) refl (record { same_vault = refl; same_keeper = refl }) tt refl c.in-Err.ensures.memory (form_of (map string_bytes c.args.request.words.now))
+    (host_of g.F.Folder.tree g.F.Attributed.attributes g.F.Folder.faults c.args.host.now c.args.host.now) (g.R.Rng.stream c.args.chance.now) (g.R.Rng.stream c.args.chance.now))
+    c.args.storage.vault c.args.storage.keeper (record { status = Memory; vault = c.args.storage.vault; keeper = c.args.storage.keeper }) (refl, refl) (refl, refl) (record { same = refl; attributes = refl; quiet = refl }) refl (record { same_vault = refl; same_keeper = refl }) tt refl c.in-Err.ensures.memory (form_of (map string_bytes c.args.request.words.now))
 
 pub returns-in-Err-clause-refusal : goal.returns-in-Err-clause-refusal
 returns-in-Err-clause-refusal g c e marked =
     memory_refusal g.V.Vault.trace g.V.Vault.faults g.V.Listing.names g.K.Keeper (map string_bytes c.args.request.words.now) c.args.request.now
     (streams_of (stream_of g.I.Source.rest g.I.Source.faults c.args.input.now c.args.input.now) (stream_of g.O.Sink.written g.O.Sink.faults c.args.output.now c.args.output.now)
-    (host_of g.F.Folder.tree g.F.Folder.faults c.args.host.now c.args.host.now) (g.R.Rng.stream c.args.chance.now) (g.R.Rng.stream c.args.chance.now))
-    c.args.storage.vault c.args.storage.keeper (record { status = Memory; vault = c.args.storage.vault; keeper = c.args.storage.keeper }) (refl, refl) (refl, refl) (refl, refl) refl (record { same_vault = refl; same_keeper = refl }) tt refl
+    (host_of g.F.Folder.tree g.F.Attributed.attributes g.F.Folder.faults c.args.host.now c.args.host.now) (g.R.Rng.stream c.args.chance.now) (g.R.Rng.stream c.args.chance.now))
+    c.args.storage.vault c.args.storage.keeper (record { status = Memory; vault = c.args.storage.vault; keeper = c.args.storage.keeper }) (refl, refl) (refl, refl) (record { same = refl; attributes = refl; quiet = refl }) refl (record { same_vault = refl; same_keeper = refl }) tt refl
 
 pub returns-in-Err-clause-no_false_alarm : goal.returns-in-Err-clause-no_false_alarm
-returns-in-Err-clause-no_false_alarm g c =
+returns-in-Err-clause-no_false_alarm g c e =
     idle_alarm g.V.Vault.trace g.V.Vault.faults g.V.Listing.names g.K.Keeper (map string_bytes c.args.request.words.now) c.args.request.now
     (streams_of (stream_of g.I.Source.rest g.I.Source.faults c.args.input.now c.args.input.now) (stream_of g.O.Sink.written g.O.Sink.faults c.args.output.now c.args.output.now)
-    (host_of g.F.Folder.tree g.F.Folder.faults c.args.host.now c.args.host.now) (g.R.Rng.stream c.args.chance.now) (g.R.Rng.stream c.args.chance.now))
-    c.args.storage.vault c.args.storage.keeper (record { status = Memory; vault = c.args.storage.vault; keeper = c.args.storage.keeper }) (refl, refl) (refl, refl) (refl, refl) refl (record { same_vault = refl; same_keeper = refl }) tt
+    (host_of g.F.Folder.tree g.F.Attributed.attributes g.F.Folder.faults c.args.host.now c.args.host.now) (g.R.Rng.stream c.args.chance.now) (g.R.Rng.stream c.args.chance.now))
+    c.args.storage.vault c.args.storage.keeper (record { status = Memory; vault = c.args.storage.vault; keeper = c.args.storage.keeper }) (refl, refl) (refl, refl) (record { same = refl; attributes = refl; quiet = refl }) refl (record { same_vault = refl; same_keeper = refl }) tt
 
 pub returns-in-Err-clause-kept : goal.returns-in-Err-clause-kept
 returns-in-Err-clause-kept g c e =
     memory_keeps g.V.Vault.trace g.V.Vault.faults g.V.Listing.names g.K.Keeper (map string_bytes c.args.request.words.now) c.args.request.now
     (streams_of (stream_of g.I.Source.rest g.I.Source.faults c.args.input.now c.args.input.now) (stream_of g.O.Sink.written g.O.Sink.faults c.args.output.now c.args.output.now)
-    (host_of g.F.Folder.tree g.F.Folder.faults c.args.host.now c.args.host.now) (g.R.Rng.stream c.args.chance.now) (g.R.Rng.stream c.args.chance.now))
-    c.args.storage.vault c.args.storage.keeper (record { status = Memory; vault = c.args.storage.vault; keeper = c.args.storage.keeper }) (refl, refl) (refl, refl) (refl, refl) refl (record { same_vault = refl; same_keeper = refl }) tt refl
+    (host_of g.F.Folder.tree g.F.Attributed.attributes g.F.Folder.faults c.args.host.now c.args.host.now) (g.R.Rng.stream c.args.chance.now) (g.R.Rng.stream c.args.chance.now))
+    c.args.storage.vault c.args.storage.keeper (record { status = Memory; vault = c.args.storage.vault; keeper = c.args.storage.keeper }) (refl, refl) (refl, refl) (record { same = refl; attributes = refl; quiet = refl }) refl (record { same_vault = refl; same_keeper = refl }) tt refl
 
 pub returns-in-Err-clause-faults_told : goal.returns-in-Err-clause-faults_told
 returns-in-Err-clause-faults_told g c =
     idle_faults g.V.Vault.trace g.V.Vault.faults g.V.Listing.names g.K.Keeper (map string_bytes c.args.request.words.now) c.args.request.now
     (streams_of (stream_of g.I.Source.rest g.I.Source.faults c.args.input.now c.args.input.now) (stream_of g.O.Sink.written g.O.Sink.faults c.args.output.now c.args.output.now)
-    (host_of g.F.Folder.tree g.F.Folder.faults c.args.host.now c.args.host.now) (g.R.Rng.stream c.args.chance.now) (g.R.Rng.stream c.args.chance.now))
-    c.args.storage.vault c.args.storage.keeper (record { status = Memory; vault = c.args.storage.vault; keeper = c.args.storage.keeper }) (refl, refl) (refl, refl) (refl, refl) refl (record { same_vault = refl; same_keeper = refl }) tt (form_of (map string_bytes c.args.request.words.now))
+    (host_of g.F.Folder.tree g.F.Attributed.attributes g.F.Folder.faults c.args.host.now c.args.host.now) (g.R.Rng.stream c.args.chance.now) (g.R.Rng.stream c.args.chance.now))
+    c.args.storage.vault c.args.storage.keeper (record { status = Memory; vault = c.args.storage.vault; keeper = c.args.storage.keeper }) (refl, refl) (refl, refl) (record { same = refl; attributes = refl; quiet = refl }) refl (record { same_vault = refl; same_keeper = refl }) tt (form_of (map string_bytes c.args.request.words.now))
 
 pub returns-in-Err-clause-statuses : goal.returns-in-Err-clause-statuses
 returns-in-Err-clause-statuses g c =
     idle_statuses g.V.Vault.trace g.V.Vault.faults g.V.Listing.names g.K.Keeper (map string_bytes c.args.request.words.now) c.args.request.now
     (streams_of (stream_of g.I.Source.rest g.I.Source.faults c.args.input.now c.args.input.now) (stream_of g.O.Sink.written g.O.Sink.faults c.args.output.now c.args.output.now)
-    (host_of g.F.Folder.tree g.F.Folder.faults c.args.host.now c.args.host.now) (g.R.Rng.stream c.args.chance.now) (g.R.Rng.stream c.args.chance.now))
-    c.args.storage.vault c.args.storage.keeper (record { status = Memory; vault = c.args.storage.vault; keeper = c.args.storage.keeper }) (refl, refl) (refl, refl) (refl, refl) refl (record { same_vault = refl; same_keeper = refl }) tt (form_of (map string_bytes c.args.request.words.now)) (λ e. absurd (cc))
+    (host_of g.F.Folder.tree g.F.Attributed.attributes g.F.Folder.faults c.args.host.now c.args.host.now) (g.R.Rng.stream c.args.chance.now) (g.R.Rng.stream c.args.chance.now))
+    c.args.storage.vault c.args.storage.keeper (record { status = Memory; vault = c.args.storage.vault; keeper = c.args.storage.keeper }) (refl, refl) (refl, refl) (record { same = refl; attributes = refl; quiet = refl }) refl (record { same_vault = refl; same_keeper = refl }) tt (form_of (map string_bytes c.args.request.words.now)) (λ e. absurd (cc))
 
 pub returns-in-Err-clause-history : goal.returns-in-Err-clause-history
 returns-in-Err-clause-history g c =
     idle_history g.V.Vault.trace g.V.Vault.faults g.V.Listing.names g.K.Keeper (map string_bytes c.args.request.words.now) c.args.request.now
     (streams_of (stream_of g.I.Source.rest g.I.Source.faults c.args.input.now c.args.input.now) (stream_of g.O.Sink.written g.O.Sink.faults c.args.output.now c.args.output.now)
-    (host_of g.F.Folder.tree g.F.Folder.faults c.args.host.now c.args.host.now) (g.R.Rng.stream c.args.chance.now) (g.R.Rng.stream c.args.chance.now))
-    c.args.storage.vault c.args.storage.keeper (record { status = Memory; vault = c.args.storage.vault; keeper = c.args.storage.keeper }) (refl, refl) (refl, refl) (refl, refl) refl (record { same_vault = refl; same_keeper = refl }) tt
+    (host_of g.F.Folder.tree g.F.Attributed.attributes g.F.Folder.faults c.args.host.now c.args.host.now) (g.R.Rng.stream c.args.chance.now) (g.R.Rng.stream c.args.chance.now))
+    c.args.storage.vault c.args.storage.keeper (record { status = Memory; vault = c.args.storage.vault; keeper = c.args.storage.keeper }) (refl, refl) (refl, refl) (record { same = refl; attributes = refl; quiet = refl }) refl (record { same_vault = refl; same_keeper = refl }) tt
 
 pub returns-in-Ok-None-clause-no_false_alarm : goal.returns-in-Ok-None-clause-no_false_alarm
-returns-in-Ok-None-clause-no_false_alarm g c =
+returns-in-Ok-None-clause-no_false_alarm g c e =
     idle_alarm g.V.Vault.trace g.V.Vault.faults g.V.Listing.names g.K.Keeper (map string_bytes c.args.request.words.now) c.args.request.now
     (streams_of (stream_of g.I.Source.rest g.I.Source.faults c.args.input.now c.args.input.now) (stream_of g.O.Sink.written g.O.Sink.faults c.args.output.now c.args.output.now)
-    (host_of g.F.Folder.tree g.F.Folder.faults c.args.host.now c.args.host.now) (g.R.Rng.stream c.args.chance.now) (g.R.Rng.stream c.args.chance.now))
-    c.args.storage.vault c.args.storage.keeper (record { status = Usage; vault = c.args.storage.vault; keeper = c.args.storage.keeper }) (refl, refl) (refl, refl) (refl, refl) refl (record { same_vault = refl; same_keeper = refl }) tt
+    (host_of g.F.Folder.tree g.F.Attributed.attributes g.F.Folder.faults c.args.host.now c.args.host.now) (g.R.Rng.stream c.args.chance.now) (g.R.Rng.stream c.args.chance.now))
+    c.args.storage.vault c.args.storage.keeper (record { status = Usage; vault = c.args.storage.vault; keeper = c.args.storage.keeper }) (refl, refl) (refl, refl) (record { same = refl; attributes = refl; quiet = refl }) refl (record { same_vault = refl; same_keeper = refl }) tt
 
 pub returns-in-Ok-None-clause-faults_told : goal.returns-in-Ok-None-clause-faults_told
 returns-in-Ok-None-clause-faults_told g c =
     idle_faults g.V.Vault.trace g.V.Vault.faults g.V.Listing.names g.K.Keeper (map string_bytes c.args.request.words.now) c.args.request.now
     (streams_of (stream_of g.I.Source.rest g.I.Source.faults c.args.input.now c.args.input.now) (stream_of g.O.Sink.written g.O.Sink.faults c.args.output.now c.args.output.now)
-    (host_of g.F.Folder.tree g.F.Folder.faults c.args.host.now c.args.host.now) (g.R.Rng.stream c.args.chance.now) (g.R.Rng.stream c.args.chance.now))
-    c.args.storage.vault c.args.storage.keeper (record { status = Usage; vault = c.args.storage.vault; keeper = c.args.storage.keeper }) (refl, refl) (refl, refl) (refl, refl) refl (record { same_vault = refl; same_keeper = refl }) tt (form_of (map string_bytes c.args.request.words.now))
+    (host_of g.F.Folder.tree g.F.Attributed.attributes g.F.Folder.faults c.args.host.now c.args.host.now) (g.R.Rng.stream c.args.chance.now) (g.R.Rng.stream c.args.chance.now))
+    c.args.storage.vault c.args.storage.keeper (record { status = Usage; vault = c.args.storage.vault; keeper = c.args.storage.keeper }) (refl, refl) (refl, refl) (record { same = refl; attributes = refl; quiet = refl }) refl (record { same_vault = refl; same_keeper = refl }) tt (form_of (map string_bytes c.args.request.words.now))
 
 pub returns-in-Ok-None-clause-statuses : goal.returns-in-Ok-None-clause-statuses
 returns-in-Ok-None-clause-statuses g c =
     idle_statuses g.V.Vault.trace g.V.Vault.faults g.V.Listing.names g.K.Keeper (map string_bytes c.args.request.words.now) c.args.request.now
     (streams_of (stream_of g.I.Source.rest g.I.Source.faults c.args.input.now c.args.input.now) (stream_of g.O.Sink.written g.O.Sink.faults c.args.output.now c.args.output.now)
-    (host_of g.F.Folder.tree g.F.Folder.faults c.args.host.now c.args.host.now) (g.R.Rng.stream c.args.chance.now) (g.R.Rng.stream c.args.chance.now))
-    c.args.storage.vault c.args.storage.keeper (record { status = Usage; vault = c.args.storage.vault; keeper = c.args.storage.keeper }) (refl, refl) (refl, refl) (refl, refl) refl (record { same_vault = refl; same_keeper = refl }) tt (form_of (map string_bytes c.args.request.words.now)) (λ e. sym c.in-Ok-None.ensures.value ∙ c.in-Ok-None.field-0-is)
+    (host_of g.F.Folder.tree g.F.Attributed.attributes g.F.Folder.faults c.args.host.now c.args.host.now) (g.R.Rng.stream c.args.chance.now) (g.R.Rng.stream c.args.chance.now))
+    c.args.storage.vault c.args.storage.keeper (record { status = Usage; vault = c.args.storage.vault; keeper = c.args.storage.keeper }) (refl, refl) (refl, refl) (record { same = refl; attributes = refl; quiet = refl }) refl (record { same_vault = refl; same_keeper = refl }) tt (form_of (map string_bytes c.args.request.words.now)) (λ e. sym c.in-Ok-None.ensures.value ∙ c.in-Ok-None.field-0-is)
 
 pub returns-in-Ok-None-clause-history : goal.returns-in-Ok-None-clause-history
 returns-in-Ok-None-clause-history g c =
     idle_history g.V.Vault.trace g.V.Vault.faults g.V.Listing.names g.K.Keeper (map string_bytes c.args.request.words.now) c.args.request.now
     (streams_of (stream_of g.I.Source.rest g.I.Source.faults c.args.input.now c.args.input.now) (stream_of g.O.Sink.written g.O.Sink.faults c.args.output.now c.args.output.now)
-    (host_of g.F.Folder.tree g.F.Folder.faults c.args.host.now c.args.host.now) (g.R.Rng.stream c.args.chance.now) (g.R.Rng.stream c.args.chance.now))
-    c.args.storage.vault c.args.storage.keeper (record { status = Usage; vault = c.args.storage.vault; keeper = c.args.storage.keeper }) (refl, refl) (refl, refl) (refl, refl) refl (record { same_vault = refl; same_keeper = refl }) tt
+    (host_of g.F.Folder.tree g.F.Attributed.attributes g.F.Folder.faults c.args.host.now c.args.host.now) (g.R.Rng.stream c.args.chance.now) (g.R.Rng.stream c.args.chance.now))
+    c.args.storage.vault c.args.storage.keeper (record { status = Usage; vault = c.args.storage.vault; keeper = c.args.storage.keeper }) (refl, refl) (refl, refl) (record { same = refl; attributes = refl; quiet = refl }) refl (record { same_vault = refl; same_keeper = refl }) tt
 
 pub returns-in-Ok-Some-clause-did : goal.returns-in-Ok-Some-clause-did
 returns-in-Ok-Some-clause-did g c =
     let made = c.in-Ok-Some in
     asked_did g.V.Vault.trace g.V.Vault.faults g.V.Listing.names g.K.Keeper (map string_bytes c.args.request.words.now) c.args.request.now
     (streams_of (stream_of g.I.Source.rest g.I.Source.faults c.args.input.now c.run_form.new.input) (stream_of g.O.Sink.written g.O.Sink.faults c.args.output.now c.run_form.new.output)
-    (host_of g.F.Folder.tree g.F.Folder.faults c.args.host.now c.run_form.new.host) (g.R.Rng.stream c.args.chance.now) (g.R.Rng.stream c.run_form.new.chance))
+    (host_of g.F.Folder.tree g.F.Attributed.attributes g.F.Folder.faults c.args.host.now c.run_form.new.host) (g.R.Rng.stream c.args.chance.now) (g.R.Rng.stream c.run_form.new.chance))
     c.args.storage.vault c.args.storage.keeper c.run_form.result
     made.form (sym made.field-0-is ∙ made.ensures.value) c.run_form.ensures.did c.run_form.ensures.caused
 
@@ -102,7 +102,7 @@ returns-in-Ok-Some-clause-refusal g c =
     let made = c.in-Ok-Some in
     asked_refusal g.V.Vault.trace g.V.Vault.faults g.V.Listing.names g.K.Keeper (map string_bytes c.args.request.words.now) c.args.request.now
     (streams_of (stream_of g.I.Source.rest g.I.Source.faults c.args.input.now c.run_form.new.input) (stream_of g.O.Sink.written g.O.Sink.faults c.args.output.now c.run_form.new.output)
-    (host_of g.F.Folder.tree g.F.Folder.faults c.args.host.now c.run_form.new.host) (g.R.Rng.stream c.args.chance.now) (g.R.Rng.stream c.run_form.new.chance))
+    (host_of g.F.Folder.tree g.F.Attributed.attributes g.F.Folder.faults c.args.host.now c.run_form.new.host) (g.R.Rng.stream c.args.chance.now) (g.R.Rng.stream c.run_form.new.chance))
     c.args.storage.vault c.args.storage.keeper c.run_form.result
     made.form (sym made.field-0-is ∙ made.ensures.value) c.run_form.ensures.did c.run_form.ensures.caused
 
@@ -111,7 +111,7 @@ returns-in-Ok-Some-clause-no_false_alarm g c =
     let made = c.in-Ok-Some in
     asked_alarm g.V.Vault.trace g.V.Vault.faults g.V.Listing.names g.K.Keeper (map string_bytes c.args.request.words.now) c.args.request.now
     (streams_of (stream_of g.I.Source.rest g.I.Source.faults c.args.input.now c.run_form.new.input) (stream_of g.O.Sink.written g.O.Sink.faults c.args.output.now c.run_form.new.output)
-    (host_of g.F.Folder.tree g.F.Folder.faults c.args.host.now c.run_form.new.host) (g.R.Rng.stream c.args.chance.now) (g.R.Rng.stream c.run_form.new.chance))
+    (host_of g.F.Folder.tree g.F.Attributed.attributes g.F.Folder.faults c.args.host.now c.run_form.new.host) (g.R.Rng.stream c.args.chance.now) (g.R.Rng.stream c.run_form.new.chance))
     c.args.storage.vault c.args.storage.keeper c.run_form.result
     made.form (sym made.field-0-is ∙ made.ensures.value) c.run_form.ensures.did c.run_form.ensures.caused
 
@@ -120,7 +120,7 @@ returns-in-Ok-Some-clause-kept g c =
     let made = c.in-Ok-Some in
     asked_keeps g.V.Vault.trace g.V.Vault.faults g.V.Listing.names g.K.Keeper (map string_bytes c.args.request.words.now) c.args.request.now
     (streams_of (stream_of g.I.Source.rest g.I.Source.faults c.args.input.now c.run_form.new.input) (stream_of g.O.Sink.written g.O.Sink.faults c.args.output.now c.run_form.new.output)
-    (host_of g.F.Folder.tree g.F.Folder.faults c.args.host.now c.run_form.new.host) (g.R.Rng.stream c.args.chance.now) (g.R.Rng.stream c.run_form.new.chance))
+    (host_of g.F.Folder.tree g.F.Attributed.attributes g.F.Folder.faults c.args.host.now c.run_form.new.host) (g.R.Rng.stream c.args.chance.now) (g.R.Rng.stream c.run_form.new.chance))
     c.args.storage.vault c.args.storage.keeper c.run_form.result
     made.form (sym made.field-0-is ∙ made.ensures.value) c.run_form.ensures.did c.run_form.ensures.caused
 
@@ -129,7 +129,7 @@ returns-in-Ok-Some-clause-faults_told g c =
     let made = c.in-Ok-Some in
     asked_faults g.V.Vault.trace g.V.Vault.faults g.V.Listing.names g.K.Keeper (map string_bytes c.args.request.words.now) c.args.request.now
     (streams_of (stream_of g.I.Source.rest g.I.Source.faults c.args.input.now c.run_form.new.input) (stream_of g.O.Sink.written g.O.Sink.faults c.args.output.now c.run_form.new.output)
-    (host_of g.F.Folder.tree g.F.Folder.faults c.args.host.now c.run_form.new.host) (g.R.Rng.stream c.args.chance.now) (g.R.Rng.stream c.run_form.new.chance))
+    (host_of g.F.Folder.tree g.F.Attributed.attributes g.F.Folder.faults c.args.host.now c.run_form.new.host) (g.R.Rng.stream c.args.chance.now) (g.R.Rng.stream c.run_form.new.chance))
     c.args.storage.vault c.args.storage.keeper c.run_form.result
     made.form (sym made.field-0-is ∙ made.ensures.value) c.run_form.ensures.did c.run_form.ensures.caused c.run_form.ensures.grows.input c.run_form.ensures.grows.output c.run_form.ensures.grows.host
 
@@ -138,7 +138,7 @@ returns-in-Ok-Some-clause-statuses g c =
     let made = c.in-Ok-Some in
     asked_statuses g.V.Vault.trace g.V.Vault.faults g.V.Listing.names g.K.Keeper (map string_bytes c.args.request.words.now) c.args.request.now
     (streams_of (stream_of g.I.Source.rest g.I.Source.faults c.args.input.now c.run_form.new.input) (stream_of g.O.Sink.written g.O.Sink.faults c.args.output.now c.run_form.new.output)
-    (host_of g.F.Folder.tree g.F.Folder.faults c.args.host.now c.run_form.new.host) (g.R.Rng.stream c.args.chance.now) (g.R.Rng.stream c.run_form.new.chance))
+    (host_of g.F.Folder.tree g.F.Attributed.attributes g.F.Folder.faults c.args.host.now c.run_form.new.host) (g.R.Rng.stream c.args.chance.now) (g.R.Rng.stream c.run_form.new.chance))
     c.args.storage.vault c.args.storage.keeper c.run_form.result
     made.form (sym made.field-0-is ∙ made.ensures.value) c.run_form.ensures.did c.run_form.ensures.caused
 
@@ -147,7 +147,7 @@ returns-in-Ok-Some-clause-spares g c =
     let made = c.in-Ok-Some in
     asked_spares g.V.Vault.trace g.V.Vault.faults g.V.Listing.names g.K.Keeper (map string_bytes c.args.request.words.now) c.args.request.now
     (streams_of (stream_of g.I.Source.rest g.I.Source.faults c.args.input.now c.run_form.new.input) (stream_of g.O.Sink.written g.O.Sink.faults c.args.output.now c.run_form.new.output)
-    (host_of g.F.Folder.tree g.F.Folder.faults c.args.host.now c.run_form.new.host) (g.R.Rng.stream c.args.chance.now) (g.R.Rng.stream c.run_form.new.chance))
+    (host_of g.F.Folder.tree g.F.Attributed.attributes g.F.Folder.faults c.args.host.now c.run_form.new.host) (g.R.Rng.stream c.args.chance.now) (g.R.Rng.stream c.run_form.new.chance))
     c.args.storage.vault c.args.storage.keeper c.run_form.result
     made.form (sym made.field-0-is ∙ made.ensures.value) c.run_form.ensures.did c.run_form.ensures.caused c.args.host.now c.run_form.new.host c.run_form.ensures.unhosted c.run_form.ensures.undrawn c.run_form.ensures.drawn
 
@@ -156,7 +156,7 @@ returns-in-Ok-Some-clause-history g c =
     let made = c.in-Ok-Some in
     asked_history g.V.Vault.trace g.V.Vault.faults g.V.Listing.names g.K.Keeper (map string_bytes c.args.request.words.now) c.args.request.now
     (streams_of (stream_of g.I.Source.rest g.I.Source.faults c.args.input.now c.run_form.new.input) (stream_of g.O.Sink.written g.O.Sink.faults c.args.output.now c.run_form.new.output)
-    (host_of g.F.Folder.tree g.F.Folder.faults c.args.host.now c.run_form.new.host) (g.R.Rng.stream c.args.chance.now) (g.R.Rng.stream c.run_form.new.chance))
+    (host_of g.F.Folder.tree g.F.Attributed.attributes g.F.Folder.faults c.args.host.now c.run_form.new.host) (g.R.Rng.stream c.args.chance.now) (g.R.Rng.stream c.run_form.new.chance))
     c.args.storage.vault c.args.storage.keeper c.run_form.result
     made.form (sym made.field-0-is ∙ made.ensures.value) c.run_form.ensures.did c.run_form.ensures.caused
 
