@@ -3,7 +3,7 @@ use Rattle.std.specs.Prelude.{ℕ, Bool, true, false, ◌||◌, ◌&&◌, cond, 
 use Rattle.std.specs.Str.{bytes_eq}
 use Rattle.std.specs.declared.option.Option.{Option}
 use Rattle.std.specs.declared.option.Option.TheVariants.{None, Some}
-use Rattle.program_inputs.specs.HostWord.{is_copy}
+use Rattle.program_inputs.specs.HostWord.{is_copy, is_times}
 use Rattle.program_inputs.specs.declared.options.Options.{Options}
 
 abbrev pub none_said : Options
@@ -14,9 +14,14 @@ abbrev pub asks_all : List (List ℕ) → Bool
 asks_all [] = false
 asks_all (word ∷ words) = bytes_eq word (codes "--all")
 
--- a command and PATH, `check --all` or `check` alone; no other command has such words
+-- `--times` stands first
+abbrev pub keeps_times : List (List ℕ) → Bool
+keeps_times [] = false
+keeps_times (word ∷ words) = is_times word
+
+-- a command and PATH, perhaps with `--times` between them, `check --all` or `check` alone; no other command has such words
 abbrev pub own_words : List ℕ → List (List ℕ) → ℕ
-own_words first more = cond (is_copy first) 2 (cond (bytes_eq first (codes "check")) (cond (asks_all more) 2 1) 0)
+own_words first more = cond (is_copy first) (cond (keeps_times more) 3 2) (cond (bytes_eq first (codes "check")) (cond (asks_all more) 2 1) 0)
 
 -- `--quiet`, and `--leave-out` of an import
 abbrev pub option_of : List ℕ → List ℕ → Option Options

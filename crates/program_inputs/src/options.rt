@@ -1,7 +1,7 @@
 // The words behind those of a copy or a check that say how it goes.
 ghost use Rattle.std.specs.Prelude.{◌≡◌, map};
 ghost use Rattle.std.specs.String.{string_bytes};
-ghost use Rattle.program_inputs.specs.OptionWords.{asks_all, both_of, how_said, none_said, option_of, options_in, options_of, own_words, words_kept};
+ghost use Rattle.program_inputs.specs.OptionWords.{asks_all, keeps_times, both_of, how_said, none_said, option_of, options_in, options_of, own_words, words_kept};
 
 /// How a copy or a check goes.
 #[derive(Clone, Copy)]
@@ -58,11 +58,21 @@ fn own_words(first: &str, more: &[String]) -> usize
     ensures { result ≡ own_words first.now (map string_bytes more.now) }
 {
     if first == "import" || first == "export" {
-        2
+        if keeps_times(more) { 3 } else { 2 }
     } else if first == "check" {
         if asks_all(more) { 2 } else { 1 }
     } else {
         0
+    }
+}
+
+/// Whether `--times` stands first.
+fn keeps_times(words: &[String]) -> bool
+    ensures { result ≡ keeps_times (map string_bytes words.now) }
+{
+    match words {
+        [word, ..] => word.as_str() == "--times",
+        [] => false,
     }
 }
 

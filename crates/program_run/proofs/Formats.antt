@@ -35,7 +35,7 @@ use Rattle.cryfs_shell.specs.Doing.{Did}
 use Rattle.cryfs_shell.specs.Kinds.{opens}
 use Rattle.cryfs_shell.proofs.Statuses.{opening_is_no}
 use Rattle.cryfs_shell.proofs.Sessions.{one_unread, unread_is_no}
-use Rattle.cryfs_shell.specs.session_laws.Histories.{Run, session, quiet, examined, migrated, before_of, after_of, IsRun}
+use Rattle.cryfs_shell.specs.session_laws.Histories.{Run, session, quiet, examined, migrated, looked, before_of, after_of, IsRun}
 use Rattle.program_run.specs.Calls.{RunCall, IsRunCall}
 use Rattle.program_run.specs.Formats.{HasCreated, HasMigrated}
 use Rattle.program_run.specs.Lists.{AreRunCalls, left_by}
@@ -49,6 +49,7 @@ run_takes (session password before after closing es) r = r.least 2
 run_takes (quiet password before after) r = r.least 2
 run_takes (examined password before after bad) r = r.least 2
 run_takes (migrated password before after bad) r = r.least
+run_takes (looked before after) r = subst (TakesFrom 2) (sym r.kept)
 
 takes_is_some : (kept : Option (List ℕ)) → TakesFrom 2 kept → is_some kept ≡ true
 takes_is_some kept (inl marked) = marked_is_some kept marked

@@ -25,23 +25,23 @@ use Rattle.run_status.specs.declared.status.Status.TheVariants.{Done}
 use Rattle.cryfs_shell.specs.session_laws.Runs.{Outside, outside_of, OutsideStandsFor, IsQuietRun}
 use Rattle.cryfs_shell.specs.shell_runs.Sessions.{Session}
 use Rattle.cryfs_shell.specs.program_words.declared.form.Form.{Form}
-use Rattle.cryfs_shell.specs.program_words.declared.form.Form.TheVariants.{Trial, TrialGenerate, Create, Info, Passwd, Migrate, Shell, Generate, Command, Import, Export, Put, Get, Check, Survey}
+use Rattle.cryfs_shell.specs.program_words.declared.form.Form.TheVariants.{Trial, TrialGenerate, Create, Info, Passwd, Migrate, Shell, Generate, Command, Import, Export, ImportTimes, ExportTimes, Put, Get, Check, Survey, Look}
 use Rattle.cryfs_shell.specs.program_words.Forms.{form_of}
 use Rattle.cryfs_shell.specs.mount_core.Showing.{ShowsFiles}
-use Rattle.cryfs_shell.specs.session_laws.Histories.{Run, session, quiet, examined, migrated, before_of, after_of, IsRun, GoesOnFrom}
+use Rattle.cryfs_shell.specs.session_laws.Histories.{Run, session, quiet, examined, migrated, looked, before_of, after_of, IsRun, GoesOnFrom}
 use Rattle.cryfs_shell.specs.answers.Sessions.{is_violation}
 use Rattle.cryfs_shell.specs.setup_runs.Migrate.{RanMigrate}
 use Rattle.cryfs_shell.specs.mount_migrating.Migrating.{told}
 use Rattle.cryfs_shell.specs.Clauses.{IsRefusingStatus, NoFalseAlarm, TellsFaults}
 use Rattle.cryfs_shell.specs.Doing.{Did}
 use Rattle.cryfs_shell.specs.History.{Comes}
-use Rattle.cryfs_shell.specs.Kinds.{opens, is_session, is_check, is_migration}
+use Rattle.cryfs_shell.specs.Kinds.{opens, heeds_mark, is_session, is_check, is_migration, is_look}
 use Rattle.cryfs_shell.proofs.Checks.{ends_by, bad_by}
 use Rattle.cryfs_shell.proofs.Migrations as migrations
 use Rattle.cryfs_shell.proofs.Statuses.{opening_is_no}
 use Rattle.cryfs_shell.proofs.Sessions.{UnreadCause, one_unread, two_unread, unread_is_no, password_is}
 use Rattle.program_run.specs.Calls.{RunCall, IsRunCall}
-use Rattle.program_run.specs.Lists.{CallAnswered, IsRunOf, creates, password_of}
+use Rattle.program_run.specs.Lists.{CallAnswered, IsRunOf, creates, IsUnder}
 
 -- the first line of a told input
 abbrev password_in : Option (List ℕ) → List ℕ
@@ -61,7 +61,7 @@ module _ {V : Type 0} {K : Type 0} (trace : V → Option (List Call)) (faults : 
     is_run : IsRun ShowsFiles run
     begins : before_of run ≡ Before
     ends : after_of run ≡ After
-    password : (bytes : List ℕ) → call.streams.input.old ≡ Some bytes → password_of run ≡ first_line bytes
+    password : (bytes : List ℕ) → call.streams.input.old ≡ Some bytes → IsUnder (first_line bytes) run
     answered : CallAnswered call asked run
 
   quiet_ran : (asked : Option Form) (password : List ℕ) → ((bytes : List ℕ) → call.streams.input.old ≡ Some bytes → password ≡ first_line bytes) → IsQuietRun ShowsFiles password Before After
@@ -163,6 +163,8 @@ module _ {V : Type 0} {K : Type 0} (trace : V → Option (List Call)) (faults : 
   did_run (Some Command) e d = session_ran (Some Command) d
   did_run (Some (Import path)) e d = session_ran (Some (Import path)) d.0
   did_run (Some (Export path)) e d = session_ran (Some (Export path)) d.0
+  did_run (Some (ImportTimes path)) e d = session_ran (Some (ImportTimes path)) d.0
+  did_run (Some (ExportTimes path)) e d = session_ran (Some (ExportTimes path)) d.0
   did_run (Some (Put path)) e d = session_ran (Some (Put path)) d
   did_run (Some (Get path)) e d = session_ran (Some (Get path)) d
   did_run (Some Check) e d = checked_ran d
@@ -170,12 +172,13 @@ module _ {V : Type 0} {K : Type 0} (trace : V → Option (List Call)) (faults : 
   did_run (Some Survey) e (inr (password, script, has, unfailed, inl ((error, u), unwritten))) = unopened_ran (Some Survey) password script has.is_next error u unwritten
   did_run (Some Survey) e (inr (password, script, has, unfailed, inr t)) =
       quiet_ran (Some Survey) password (next_first password script has.is_next) (quiet_run trace faults names G password call.streams.output h.vault h.keeper h.ended t) (λ f. absurd (cc))
+  did_run (Some Look) e d = record { run = looked Before After; is_run = d.looked; begins = refl; ends = refl; password = λ bytes told. tt; answered = refl }
 
   -- what is said of what was outside and of the status, of the call's
   stated : (P : Outside → Outside → Status → Type 0) → P Before After h.ended.status → P call.before call.after call.status
   stated P p = subst (λ (o : Outside). P o call.after call.status) (sym h.begins) (subst (λ (o : Outside). P Before o call.status) (sym h.ends) (subst (P Before After) (sym h.status) p))
 
-  refusing : opens (form_of call.words) ≡ true → IsKeptMarked records call.before.kept → IsRefusingStatus call.status × Untouched call.streams.output
+  refusing : heeds_mark (form_of call.words) ≡ true → IsKeptMarked records call.before.kept → IsRefusingStatus call.status × Untouched call.streams.output
   refusing e m =
       let r = h.refusal e (subst (λ (o : Outside). IsKeptMarked records o.kept) h.begins m) in
       (subst IsRefusingStatus (sym h.status) r.status, r.unwritten)
@@ -190,8 +193,8 @@ module _ {V : Type 0} {K : Type 0} (trace : V → Option (List Call)) (faults : 
           ends = r.ends ∙ sym h.ends;
           password = r.password;
           answered = r.answered;
-          refused = refusing e;
-          no_false_alarm = stated (NoFalseAlarm call.streams.input) h.no_false_alarm;
+          refused = refusing;
+          no_false_alarm = λ other. stated (NoFalseAlarm call.streams.input) (h.no_false_alarm other);
           faults_told = stated (TellsFaults (form_of call.words) call.streams) h.faults_told;
         },
       )
@@ -219,10 +222,13 @@ module _ {V : Type 0} {K : Type 0} (trace : V → Option (List Call)) (faults : 
   did_stay (Some Command) e there d = absurd (cc)
   did_stay (Some (Import path)) e there d = absurd (cc)
   did_stay (Some (Export path)) e there d = absurd (cc)
+  did_stay (Some (ImportTimes path)) e there d = absurd (cc)
+  did_stay (Some (ExportTimes path)) e there d = absurd (cc)
   did_stay (Some (Put path)) e there d = absurd (cc)
   did_stay (Some (Get path)) e there d = absurd (cc)
   did_stay (Some Check) e there d = absurd (cc)
   did_stay (Some Survey) e there d = absurd (cc)
+  did_stay (Some Look) e there d = absurd (cc)
 
   pub other : opens (form_of call.words) ≡ false → (creates (form_of call.words) ≡ true → is_some call.before.kept ≡ true) → GoesOnFrom call.before call.after
   other e there =

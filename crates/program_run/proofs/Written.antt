@@ -24,7 +24,7 @@ use Rattle.cryfs_shell.specs.session_lines.declared.end.End.TheVariants.{Finishe
 use Rattle.cryfs_shell.specs.session_laws.Runs.{Outside, outside_of, IsFounded}
 use Rattle.cryfs_shell.specs.shell_runs.Sessions.{Session, IsServed, ComesShell, ComesCommand}
 use Rattle.program_inputs.specs.program_words.declared.form.Form.{Form}
-use Rattle.program_inputs.specs.program_words.declared.form.Form.TheVariants.{Trial, TrialGenerate, Create, Info, Passwd, Migrate, Shell, Generate, Command, Import, Export, Put, Get, Check, Survey}
+use Rattle.program_inputs.specs.program_words.declared.form.Form.TheVariants.{Trial, TrialGenerate, Create, Info, Passwd, Migrate, Shell, Generate, Command, Import, Export, ImportTimes, ExportTimes, Put, Get, Check, Survey, Look}
 use Rattle.program_inputs.specs.program_words.Forms.{form_of, joined}
 use Rattle.cryfs_shell.specs.mount_core.Showing.{ShowsFiles}
 use Rattle.program_run.specs.Program.{told, program_call}
@@ -95,10 +95,13 @@ module _ {V : Type 0} {K : Type 0} (trace : V → Option (List Call)) (faults : 
     did (Some Command) e d = session (ComesCommand now (joined words) input Output) (command_told (joined words)) d
     did (Some (Import path)) e d = absurd (cc)
     did (Some (Export path)) e d = absurd (cc)
+    did (Some (ImportTimes path)) e d = absurd (cc)
+    did (Some (ExportTimes path)) e d = absurd (cc)
     did (Some (Put path)) e d = absurd (cc)
     did (Some (Get path)) e d = absurd (cc)
     did (Some Check) e d = absurd (cc)
     did (Some Survey) e d = absurd (cc)
+    did (Some Look) e d = absurd (cc)
     did (Some Migrate) e d = absurd (cc)
 
   pub wrote : IsRunCall trace faults names G Ran → WritesSession words now before after old new

@@ -14,7 +14,7 @@ use Rattle.cryfs_shell.specs.program_words.Forms.{form_of}
 use Rattle.cryfs_shell.specs.Clauses.{IsRefusedRun, NoFalseAlarm, KeepsTree, TellsFaults, StatusSays}
 use Rattle.cryfs_shell.specs.Doing.{Did}
 use Rattle.cryfs_shell.specs.shell_runs.Hosts.{IsStill}
-use Rattle.cryfs_shell.specs.Kinds.{is_migration, copies, draws, opens, seals}
+use Rattle.cryfs_shell.specs.Kinds.{is_migration, is_look, copies, draws, heeds_mark, opens, seals}
 use Rattle.cryfs_shell.specs.Streams.{Streams}
 
 -- its words and moment, what it read, wrote, drew and copied, what was outside before and after, and the status
@@ -46,8 +46,8 @@ pub record IsRunCall {V : Type 0} {K : Type 0} (trace : V → Option (List Call)
   pub ends : call.after ≡ outside_of trace faults G ended.vault ended.keeper
   pub status : call.status ≡ ended.status
   pub did : Did trace faults names G call.words call.now call.streams vault keeper ended (form_of call.words)
-  pub refusal : opens (form_of call.words) ≡ true → IsKeptMarked records (G.kept keeper) → IsRefusedRun G.kept call.streams.output vault keeper ended
-  pub no_false_alarm : NoFalseAlarm call.streams.input (outside_of trace faults G vault keeper) (outside_of trace faults G ended.vault ended.keeper) ended.status
+  pub refusal : heeds_mark (form_of call.words) ≡ true → IsKeptMarked records (G.kept keeper) → IsRefusedRun G.kept call.streams.output vault keeper ended
+  pub no_false_alarm : is_look (form_of call.words) ≡ false → NoFalseAlarm call.streams.input (outside_of trace faults G vault keeper) (outside_of trace faults G ended.vault ended.keeper) ended.status
   pub kept : opens (form_of call.words) ≡ true → KeepsTree call.streams.input (outside_of trace faults G vault keeper) (outside_of trace faults G ended.vault ended.keeper)
   pub faults_told : TellsFaults (form_of call.words) call.streams (outside_of trace faults G vault keeper) (outside_of trace faults G ended.vault ended.keeper) ended.status
   pub statuses : StatusSays trace faults G (form_of call.words) vault keeper ended

@@ -25,20 +25,22 @@ use Rattle.cryfs_shell.specs.program_words.declared.form.Form.{Form}
 use Rattle.cryfs_shell.specs.program_words.declared.form.Form.TheVariants.{Create}
 use Rattle.cryfs_shell.specs.program_words.Forms.{form_of}
 use Rattle.cryfs_shell.specs.mount_core.Showing.{ShowsFiles}
-use Rattle.cryfs_shell.specs.session_laws.Histories.{Run, session, quiet, examined, migrated, before_of, after_of, IsRun, IsUnforgedRun, GoesOnFrom, end_of, Follow, EndsWith}
+use Rattle.cryfs_shell.specs.session_laws.Histories.{Run, session, quiet, examined, migrated, looked, before_of, after_of, IsRun, IsUnforgedRun, GoesOnFrom, end_of, Follow, EndsWith}
 use Rattle.cryfs_shell.specs.Clauses.{IsRefusingStatus, NoFalseAlarm, TellsFaults}
 use Rattle.cryfs_shell.specs.History.{Comes, Judges, Meets}
-use Rattle.cryfs_shell.specs.Kinds.{opens, is_session, is_check, is_migration}
+use Rattle.cryfs_shell.specs.Kinds.{opens, heeds_mark, is_session, is_check, is_migration, is_look}
 use Rattle.program_run.specs.Calls.{RunCall, IsRunCall}
 
-abbrev pub password_of : Run → List ℕ
-password_of (session password before after closing es) = password
-password_of (quiet password before after) = password
-password_of (examined password before after bad) = password
-password_of (migrated password before after bad) = password
+-- the run's password is this one; a look names none
+abbrev pub IsUnder : List ℕ → Run → Type 0
+IsUnder first (session password before after closing es) = password ≡ first
+IsUnder first (quiet password before after) = password ≡ first
+IsUnder first (examined password before after bad) = password ≡ first
+IsUnder first (migrated password before after bad) = password ≡ first
+IsUnder first (looked before after) = Unit {0}
 
 -- In a session the exchanges came so, and the status is theirs, or its own where nothing else is the matter. A check was judged so, and blocks that were written anew met so a violation or none. In a run of no lines the words ask for none of these, or nothing was
--- written and the status isn't Done.
+-- written and the status isn't Done. Only a look is one.
 abbrev pub CallAnswered : RunCall → Option Form → Run → Type 0
 CallAnswered call asked (session password before after closing es) =
     (script : Option (List ℕ)) × HasPassword call.streams.input password script
@@ -46,6 +48,7 @@ CallAnswered call asked (session password before after closing es) =
 CallAnswered call asked (quiet password before after) = (is_session asked || is_check asked || is_migration asked) ≡ true → Untouched call.streams.output × (call.status ≢ Done)
 CallAnswered call asked (examined password before after bad) = (after : Option (List ℕ)) × HasPassword call.streams.input password after × Judges asked call.status bad
 CallAnswered call asked (migrated password before after bad) = (after : Option (List ℕ)) × HasPassword call.streams.input password after × Meets asked call.status bad
+CallAnswered call asked (looked before after) = is_look asked ≡ true
 
 -- the call is this run
 pub record IsRunOf (call : RunCall) (run : Run) : Type 0 where
@@ -53,12 +56,12 @@ pub record IsRunOf (call : RunCall) (run : Run) : Type 0 where
   pub begins : before_of run ≡ call.before
   pub ends : after_of run ≡ call.after
   -- its password is the first line of the input, where that is told
-  pub password : (bytes : List ℕ) → call.streams.input.old ≡ Some bytes → password_of run ≡ first_line bytes
+  pub password : (bytes : List ℕ) → call.streams.input.old ≡ Some bytes → IsUnder (first_line bytes) run
   pub answered : CallAnswered call (form_of call.words) run
-  -- over a marked record the status refuses, and nothing is written
-  pub refused : IsKeptMarked records call.before.kept → IsRefusingStatus call.status × Untouched call.streams.output
-  -- where the directory gave what was last written and no other configuration opens at all, it is no violation; and it names the faults that happened
-  pub no_false_alarm : NoFalseAlarm call.streams.input call.before call.after call.status
+  -- over a marked record the status refuses, and nothing is written, but by a look
+  pub refused : heeds_mark (form_of call.words) ≡ true → IsKeptMarked records call.before.kept → IsRefusingStatus call.status × Untouched call.streams.output
+  -- where the directory gave what was last written and no other configuration opens at all, it is no violation, but of a look; and it names the faults that happened
+  pub no_false_alarm : is_look (form_of call.words) ≡ false → NoFalseAlarm call.streams.input call.before call.after call.status
   pub faults_told : TellsFaults (form_of call.words) call.streams call.before call.after call.status
 
 -- the words are those of `create`

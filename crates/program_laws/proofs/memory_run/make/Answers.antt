@@ -16,6 +16,7 @@ use Rattle.copy_file.specs.store_api.Durables.{last_told}
 use Rattle.cryfs_shell.specs.program_words.Forms.{form_of}
 use Rattle.program_laws.specs.contracts.honest_keeper.HonestKeeperKeeper.TheImpl as keeper_impl
 use Rattle.program_laws.specs.contracts.honest_vault.HonestVaultListing.TheImpl as listing_impl
+use Rattle.memory_host_folder.specs.contracts.memory_folder.MemoryFolderAttributed.TheImpl as attributes_impl
 use Rattle.memory_host_folder.specs.contracts.memory_folder.MemoryFolderFolder.TheImpl as folder_impl
 use Rattle.program_laws.specs.Made.{password, outside_in}
 use Rattle.program_laws.proofs.Forms.{usual, create_form}
@@ -31,7 +32,7 @@ returns-clause-want g c =
     let output : Stream = record { old = Some c.new-output.result.written.items; new = Some r.new.output.written.items; faults = c.new-output.result.faults; risen = r.new.output.faults } in
     let trace = λ (v : VaultState). Some v.trace in
     let faults = λ (v : VaultState). v.faults in
-    let streams = streams_of input output (host_of (folder_impl.ghosts).tree (folder_impl.ghosts).faults c.new-3.result r.new.host) (g.R.Rng.stream c.args.chance.now) (g.R.Rng.stream r.new.chance) in
+    let streams = streams_of input output (host_of (folder_impl.ghosts).tree (attributes_impl.ghosts).attributes (folder_impl.ghosts).faults c.new-3.result r.new.host) (g.R.Rng.stream c.args.chance.now) (g.R.Rng.stream r.new.chance) in
     let ran = subst (Did trace faults (listing_impl.ghosts).names keeper_impl.ghosts (map string_bytes c.deref.result.now) c.args.now streams c.new.result c.new-2.result r.result) (ap form_of words ∙ create_form) r.ensures.did in
     let told = ap Some c.in-Ok-Ok.ensures'.rest in
     let bare : IsBare (outside_of trace faults keeper_impl.ghosts c.new.result c.new-2.result) = record { kept = c.new-2.ensures.bare; unchanged = record { told = refl; none = λ name. ap (λ t. last_told name (Some t)) c.new.ensures.empty } } in
@@ -49,7 +50,7 @@ returns-then-is_done-clause-made g c =
     let output : Stream = record { old = Some c.new-output.result.written.items; new = Some r.new.output.written.items; faults = c.new-output.result.faults; risen = r.new.output.faults } in
     let trace = λ (v : VaultState). Some v.trace in
     let faults = λ (v : VaultState). v.faults in
-    let streams = streams_of input output (host_of (folder_impl.ghosts).tree (folder_impl.ghosts).faults c.new-3.result r.new.host) (g.R.Rng.stream c.args.chance.now) (g.R.Rng.stream r.new.chance) in
+    let streams = streams_of input output (host_of (folder_impl.ghosts).tree (attributes_impl.ghosts).attributes (folder_impl.ghosts).faults c.new-3.result r.new.host) (g.R.Rng.stream c.args.chance.now) (g.R.Rng.stream r.new.chance) in
     let ran = subst (Did trace faults (listing_impl.ghosts).names keeper_impl.ghosts (map string_bytes c.deref.result.now) c.args.now streams c.new.result c.new-2.result r.result) (ap form_of words ∙ create_form) r.ensures.did in
     let draws = (drawn (g.R.Rng.stream c.args.chance.now)).0 in
     let told = ap Some c.in-Ok-Ok.ensures'.rest in

@@ -4,6 +4,7 @@ use Rattle.std.specs.String.{string_bytes}
 use Rattle.program_laws.specs.Premises.{IsUntroubled, Finds}
 use Rattle.cryfs_shell.specs.Doing.{Did}
 use Rattle.cryfs_shell.specs.shell_runs.Hosts.{host_of}
+use Rattle.cryfs_shell.specs.Kinds.{is_look}
 use Rattle.cryfs_shell.specs.Streams.{streams_of}
 use Rattle.fs_model.specs.Tree.{empty_tree}
 use Rattle.cryfs_shell.specs.line_io.Streams.{Stream}
@@ -13,6 +14,7 @@ use Rattle.session_laws.specs.Runs.{lies}
 use Rattle.cryfs_shell.specs.program_words.Forms.{form_of}
 use Rattle.program_laws.specs.contracts.honest_keeper.HonestKeeperKeeper.TheImpl as keeper_impl
 use Rattle.program_laws.specs.contracts.honest_vault.HonestVaultListing.TheImpl as listing_impl
+use Rattle.memory_host_folder.specs.contracts.memory_folder.MemoryFolderAttributed.TheImpl as attributes_impl
 use Rattle.memory_host_folder.specs.contracts.memory_folder.MemoryFolderFolder.TheImpl as folder_impl
 use Rattle.program_laws.specs.Made.{password, outside_in}
 use Rattle.program_laws.proofs.Forms.{shell_form}
@@ -27,14 +29,14 @@ returns-clause-want g c =
     let output : Stream = record { old = Some c.new-output.result.written.items; new = Some r.new.output.written.items; faults = c.new-output.result.faults; risen = r.new.output.faults } in
     let trace = λ (v : VaultState). Some v.trace in
     let faults = λ (v : VaultState). v.faults in
-    let streams = streams_of input output (host_of (folder_impl.ghosts).tree (folder_impl.ghosts).faults c.new.result r.new.host) (g.R.Rng.stream c.args.chance.now) (g.R.Rng.stream r.new.chance) in
+    let streams = streams_of input output (host_of (folder_impl.ghosts).tree (attributes_impl.ghosts).attributes (folder_impl.ghosts).faults c.new.result r.new.host) (g.R.Rng.stream c.args.chance.now) (g.R.Rng.stream r.new.chance) in
     let ran = subst (Did trace faults (listing_impl.ghosts).names keeper_impl.ghosts (map string_bytes c.deref.result.now) c.args.now streams c.args.made.vault c.args.made.keeper r.result) (ap form_of words ∙ shell_form) r.ensures.did in
     let bytes = password ++ 10 ∷ c.args.script.now in
     let before = outside_in c.args.made.vault c.args.made.keeper in
     let after = outside_in r.result.vault r.result.keeper in
     let finds : Finds input bytes c.requires.c empty_tree before = record { told = ap Some c.in-Ok-Ok.ensures'.rest; short = short; opens = c.requires.leaves.opens; stands = c.requires.leaves.stands } in
     let gave : lies after ≤ lies before = let a = c.attest.ensures.truthful in let b = c.attest-3.ensures.truthful in omega (arith, a, b) in
-    let calm = calm_of c.honest_runs_are_unforged.ensures.only input before after r.result.status r.ensures.no_false_alarm bytes c.requires.c empty_tree finds gave in
+    let calm = calm_of c.honest_runs_are_unforged.ensures.only input before after r.result.status (r.ensures.no_false_alarm (ap (λ w. is_look (form_of w)) words ∙ ap is_look shell_form)) bytes c.requires.c empty_tree finds gave in
     let less = few input c.in-Ok-Ok.input.rest r.new.input.rest refl refl c.in-Ok-Ok.ensures'.few in
     let quiet : IsUnfailed output → IsUntroubled input output before after =
     λ unfailed. untroubled input output c.args.made.vault r.result.vault c.args.made.keeper r.result.keeper c.attest.ensures c.attest-3.ensures c.attest-2.ensures c.attest-4.ensures
@@ -49,14 +51,14 @@ returns-then-is_done-clause-transcript g c =
     let output : Stream = record { old = Some c.new-output.result.written.items; new = Some r.new.output.written.items; faults = c.new-output.result.faults; risen = r.new.output.faults } in
     let trace = λ (v : VaultState). Some v.trace in
     let faults = λ (v : VaultState). v.faults in
-    let streams = streams_of input output (host_of (folder_impl.ghosts).tree (folder_impl.ghosts).faults c.new.result r.new.host) (g.R.Rng.stream c.args.chance.now) (g.R.Rng.stream r.new.chance) in
+    let streams = streams_of input output (host_of (folder_impl.ghosts).tree (attributes_impl.ghosts).attributes (folder_impl.ghosts).faults c.new.result r.new.host) (g.R.Rng.stream c.args.chance.now) (g.R.Rng.stream r.new.chance) in
     let ran = subst (Did trace faults (listing_impl.ghosts).names keeper_impl.ghosts (map string_bytes c.deref.result.now) c.args.now streams c.args.made.vault c.args.made.keeper r.result) (ap form_of words ∙ shell_form) r.ensures.did in
     let bytes = password ++ 10 ∷ c.args.script.now in
     let before = outside_in c.args.made.vault c.args.made.keeper in
     let after = outside_in r.result.vault r.result.keeper in
     let finds : Finds input bytes c.requires.c empty_tree before = record { told = ap Some c.in-Ok-Ok.ensures'.rest; short = short; opens = c.requires.leaves.opens; stands = c.requires.leaves.stands } in
     let gave : lies after ≤ lies before = let a = c.attest.ensures.truthful in let b = c.attest-3.ensures.truthful in omega (arith, a, b) in
-    let calm = calm_of c.honest_runs_are_unforged.ensures.only input before after r.result.status r.ensures.no_false_alarm bytes c.requires.c empty_tree finds gave in
+    let calm = calm_of c.honest_runs_are_unforged.ensures.only input before after r.result.status (r.ensures.no_false_alarm (ap (λ w. is_look (form_of w)) words ∙ ap is_look shell_form)) bytes c.requires.c empty_tree finds gave in
     let less = few input c.in-Ok-Ok.input.rest r.new.input.rest refl refl c.in-Ok-Ok.ensures'.few in
     let quiet : IsUnfailed output → IsUntroubled input output before after =
     λ unfailed. untroubled input output c.args.made.vault r.result.vault c.args.made.keeper r.result.keeper c.attest.ensures c.attest-3.ensures c.attest-2.ensures c.attest-4.ensures

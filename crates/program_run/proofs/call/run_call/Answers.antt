@@ -17,7 +17,7 @@ returns-clause-call g c =
       kept = e.kept;
       faults_told = e.faults_told;
       statuses = e.statuses;
-      unhosted = λ other. let same = e.spares.unhosted other in (ap g.F.Folder.tree same, ap g.F.Folder.faults same);
+      unhosted = λ other. let same = e.spares.unhosted other in record { same = ap g.F.Folder.tree same; attributes = ap g.F.Attributed.attributes same; quiet = ap g.F.Folder.faults same };
       undrawn = e.spares.undrawn;
       drawn = e.spares.drawn;
     }
