@@ -90,10 +90,14 @@ fn record_of(alloc: Global, tale: &Tale, how: &str) -> Result<Vec<u8>, Fail> {
     }
 }
 
-/// Changes the record.
+/// Changes the record, or drops it: `none`.
 pub fn change_record(alloc: Global, tale: &mut Tale, how: &str) -> Result<(), Fail> {
-    let record = record_of(alloc, tale, how)?;
-    tale.system.keeper = MemoryKeeper::new(alloc, Some(record), Vec::new(alloc));
+    let record = if how == "none" {
+        None
+    } else {
+        Some(record_of(alloc, tale, how)?)
+    };
+    tale.system.keeper = MemoryKeeper::new(alloc, record, Vec::new(alloc));
     Ok(())
 }
 

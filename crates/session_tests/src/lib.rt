@@ -31,6 +31,8 @@ mod keys;
 #[cfg(test)]
 mod long_passwords;
 #[cfg(test)]
+mod looks;
+#[cfg(test)]
 mod orders;
 #[cfg(test)]
 mod refused;

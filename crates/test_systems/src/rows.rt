@@ -6,7 +6,7 @@ ghost use Rattle.run_status.specs.Statuses.{sentence_of};
 use crate::random::ZEROS;
 use crate::system::{Run, System, expect, new_system, nothing, outcome_beside, plain, script};
 use memory_host_folder::MemoryFolder;
-use memory_host_folder::host_folder::Folder;
+use memory_host_folder::host_attributes::Attributed;
 use run_status::Status;
 use std::alloc::Global;
 use std::mem;
@@ -43,7 +43,7 @@ fn input_of<'a>(lines: &'a str) -> &'a str {
 }
 
 /// What a run writes and how it ends. What it gives back stands in the system's place.
-fn told<F: Folder>(
+fn told<F: Attributed>(
     alloc: Global,
     system: &mut System,
     case: &Run<'_>,
@@ -70,7 +70,7 @@ fn otherwise(row: &str, written: &[u8], ended: Status) -> Fail {
 }
 
 /// The run of a row, which has to come out as it says.
-fn play_row<F: Folder>(
+fn play_row<F: Attributed>(
     alloc: Global,
     system: &mut System,
     host: &mut F,
@@ -101,7 +101,7 @@ fn play_row<F: Folder>(
 ///     > info
 ///     px
 ///     = configuration does not open
-pub fn play_beside<F: Folder>(
+pub fn play_beside<F: Attributed>(
     alloc: Global,
     system: &mut System,
     host: &mut F,

@@ -10,7 +10,7 @@ use crate::random::ZEROS;
 use cryfs_shell::{Ended, Request, Status, Storage, run};
 use fs_model::Moment;
 use memory_host_folder::MemoryFolder;
-use memory_host_folder::host_folder::Folder;
+use memory_host_folder::host_attributes::Attributed;
 use memory_outside::{MemoryKeeper, MemorySink, MemorySource, MemoryVault};
 use rand_core::Rng;
 use std::alloc::{AllocError, Global};
@@ -95,7 +95,7 @@ pub fn outcome<R: Rng>(
 }
 
 /// The same beside this folder.
-pub fn outcome_beside<F: Folder, R: Rng>(
+pub fn outcome_beside<F: Attributed, R: Rng>(
     alloc: Global,
     system: System,
     case: &Run<'_>,
@@ -158,7 +158,7 @@ pub fn expect(
 }
 
 /// The same beside this folder.
-pub fn expect_beside<F: Folder>(
+pub fn expect_beside<F: Attributed>(
     alloc: Global,
     system: System,
     case: &Run<'_>,
