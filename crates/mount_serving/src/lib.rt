@@ -20,7 +20,7 @@ mod since;
 mod state;
 mod turns;
 
-pub use serving::{End, Served, Streams, serve};
+pub use serving::{End, Served, serve};
 
 // Handed on to crates above, which needn't list them.
 pub use answers;

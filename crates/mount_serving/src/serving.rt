@@ -31,14 +31,6 @@ pub enum End {
     Memory,
 }
 
-/// Where requests come from, replies go to, and a violation is told.
-#[derive(Drop)]
-pub struct Streams<'a, I, O, E> {
-    pub input: &'a mut I,
-    pub output: &'a mut O,
-    pub notes: &'a mut E,
-}
-
 /// Memory that was taken before the first request.
 #[derive(Drop)]
 struct Buffers {
@@ -65,20 +57,22 @@ pub struct Served<H> {
     pub end: End,
 }
 
-/// Answers each request before the next is taken, until there are no more. Want of memory for a request is answered so. A change that no sync kept
-/// for 5 seconds is synced behind the reply to the next request.
+/// Answers each request of the input before the next is taken, until there are no more: replies go to the output, and a violation is told to `notes`.
+/// Want of memory for a request is answered so. A change that no sync kept for 5 seconds is synced behind the reply to the next request.
 pub fn serve<H: Host, C: Clock, I: Read, O: Write, E: Write>(
     alloc: Global,
     host: H,
     clock: &C,
     now: Moment,
-    streams: Streams<'_, I, O, E>,
+    input: &mut I,
+    output: &mut O,
+    notes: &mut E,
 ) -> Served<H>
     requires ready { H.hosting.ready host }
     ensures ready { H.hosting.ready result.host }
     ensures went { Went H.hosting host result.host }
 {
-    serve_since::<H, Brand, C, I, O, E>(alloc, host, clock, now, streams)
+    serve_since::<H, Brand, C, I, O, E>(alloc, host, clock, now, input, output, notes)
 }
 
 /// The same, where clauses know of each call what led to it.
@@ -87,7 +81,9 @@ fn serve_since<H: Host, S: Since<H>, C: Clock, I: Read, O: Write, E: Write>(
     host: H,
     clock: &C,
     now: Moment,
-    streams: Streams<'_, I, O, E>,
+    input: &mut I,
+    output: &mut O,
+    notes: &mut E,
 ) -> Served<H>
     requires ready { H.hosting.ready host }
     requires start { S.start ≡ Some host }
@@ -98,7 +94,7 @@ fn serve_since<H: Host, S: Since<H>, C: Clock, I: Read, O: Write, E: Write>(
         host,
         since: PhantomData,
     };
-    let end = serve_asked(alloc, &mut asked, clock, now, streams);
+    let end = serve_asked(alloc, &mut asked, clock, now, input, output, notes);
     let Asked { host, since: _ } = asked;
     Served { host, end }
 }
@@ -108,16 +104,13 @@ fn serve_asked<H: Host, C: Clock, I: Read, O: Write, E: Write>(
     host: &mut H,
     clock: &C,
     now: Moment,
-    streams: Streams<'_, I, O, E>,
+    input: &mut I,
+    output: &mut O,
+    notes: &mut E,
 ) -> End
     requires ready { H.hosting.ready host.old }
     ensures ready { H.hosting.ready host.new }
 {
-    let Streams {
-        input,
-        output,
-        notes,
-    } = streams;
     let (Ok(mut buffers), Ok(mut state)) = (take_memory(alloc), State::new(alloc, now)) else {
         return End::Memory;
     };
