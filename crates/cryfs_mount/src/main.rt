@@ -2,16 +2,13 @@
 //! the kernel's requests on standard input by replies on standard output, until the folder is unmounted.
 #![tactic(auto)]
 
-use call_log::CallLog;
-use mount_serving::{End, Served, Streams, serve};
+use call_log::{ByteLog, CallLog};
+use mount_run::{MountRequests, run_mount};
 use program_inputs::Inputs;
-use program_inputs::real_outside::{FolderKeeper, FolderVault, ReaderSource};
+use program_inputs::real_outside::{FolderKeeper, FolderVault, ReaderSource, WriterSink};
 use rand_chacha::ChaCha20Rng;
 use run_status::{Status, Storage};
-use shell_runs::run_frame::{Beginning, begin, session_lines};
-use shell_runs::{Mounted, close, open};
 use std::fs::{File, OpenOptions};
-use std::io::Write;
 use std::process::ExitCode;
 
 /// The descriptor that has the password line.
@@ -19,6 +16,9 @@ const PASSWORD: &str = "/dev/fd/3";
 
 /// The descriptor that is told, by one byte, that the file system is open.
 const OPENED: &str = "/dev/fd/4";
+
+/// Where nobody is told, if that descriptor isn't open.
+const NOBODY: &str = "/dev/null";
 
 /// What the words after the two folders would be of a session, which uses the record as a mount does.
 const SESSION: &str = "shell";
@@ -41,23 +41,6 @@ fn read_inputs(rt: &HostRuntime) -> Result<(Inputs, ChaCha20Rng), Status> {
     }
 }
 
-/// The password in the first line.
-fn read_password(rt: &HostRuntime, file: Option<File>) -> Result<Vec<u8>, Status> {
-    let Some(file) = file else {
-        return Err(Status::InputFault);
-    };
-    match begin(rt.alloc(), &mut ReaderSource::new(file)) {
-        Ok(
-            Beginning {
-                password,
-                reader: _,
-                text: _,
-            },
-        ) => Ok(password),
-        Err(status) => Err(status),
-    }
-}
-
 /// The two folders, before anything is read of them.
 fn storage_of<'a>(
     rt: &HostRuntime,
@@ -70,58 +53,53 @@ fn storage_of<'a>(
     Ok(Storage { vault, keeper })
 }
 
-fn tell_opened(file: Option<File>) {
-    if let Some(mut file) = file {
-        let _told = file.write(b".");
+/// The descriptor that is told that the file system is open, or one that tells nobody.
+fn open_told(rt: &HostRuntime) -> Result<File, Status> {
+    if let Ok(file) = OpenOptions::new().write(true).open(rt, OPENED) {
+        return Ok(file);
     }
-}
-
-/// How a session ends that served so, and the status of its own.
-fn ending_of(end: End) -> (session_lines::End, Status) {
-    match end {
-        End::Unmounted => (session_lines::End::Finished, Status::Done),
-        End::Fault => (session_lines::End::InputFault, Status::Done),
-        End::Memory => (session_lines::End::Finished, Status::Memory),
+    match OpenOptions::new().write(true).open(rt, NOBODY) {
+        Ok(file) => Ok(file),
+        Err(_) => Err(Status::OutputFault),
     }
 }
 
 fn run(rt: &HostRuntime) -> Status {
     // (before anything else is opened, which could get their numbers)
-    let password = File::open(rt, PASSWORD).ok();
-    let opened = OpenOptions::new().write(true).open(rt, OPENED).ok();
+    let password = File::open(rt, PASSWORD);
+    let opened = open_told(rt);
     let (inputs, mut chance) = match read_inputs(rt) {
         Ok(read) => read,
         Err(status) => return status,
     };
-    let password = match read_password(rt, password) {
-        Ok(password) => password,
+    let Ok(password) = password else {
+        return Status::InputFault;
+    };
+    let opened = match opened {
+        Ok(opened) => opened,
         Err(status) => return status,
     };
-    let Storage { vault, keeper } = match storage_of(rt, &inputs) {
+    let storage = match storage_of(rt, &inputs) {
         Ok(storage) => storage,
         Err(status) => return status,
     };
-    let mount = match open(rt.alloc(), vault, keeper, &password) {
-        Ok(mount) => mount,
-        Err(ended) => return ended.status,
-    };
-    tell_opened(opened);
-    let mounted = Mounted {
-        mount,
-        chance: &mut chance,
-    };
-    let streams = Streams {
-        input: &mut rt.stdin(),
-        output: &mut rt.stdout(),
+    let requests = MountRequests {
+        clock: rt,
+        now: inputs.now,
+        requests: &mut rt.stdin(),
+        replies: &mut rt.stdout(),
         notes: &mut rt.stderr(),
     };
-    let Served { host, end } = serve(rt.alloc(), mounted, rt, inputs.now, streams);
-    let Mounted {
-        mount,
-        chance: _chance,
-    } = host;
-    let (lines, own) = ending_of(end);
-    close(rt.alloc(), mount, lines, own).status
+    run_mount(
+        rt.alloc(),
+        requests,
+        &mut ReaderSource::new(password),
+        &mut WriterSink::new(opened, ByteLog::new()),
+        storage,
+        &mut chance,
+        &mut inputs.host(rt),
+    )
+    .status
 }
 
 fn main(rt: HostRuntime) -> ExitCode {

@@ -1,0 +1,3 @@
+mod Statuses
+pub mod Sessions
+pub mod Telling
