@@ -1,0 +1,14 @@
+pub mod Lists
+pub mod Keys
+pub mod Numbers
+pub mod Lookups
+pub mod WorldLists
+pub mod Judged
+pub mod Steps
+pub mod Taken
+pub mod Offers
+pub mod Rows
+pub mod TakenAll
+pub mod Sorted
+pub mod Listed
+pub mod Buried

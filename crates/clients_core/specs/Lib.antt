@@ -1,0 +1,9 @@
+pub mod Versions
+pub mod Others
+pub mod Judging
+pub mod Standing
+pub mod Taking
+pub mod TakenAll
+pub mod Worlds
+pub mod Clients
+pub mod Listed
