@@ -1,0 +1,9 @@
+pub mod Bounds
+pub mod Clients
+pub mod Decoded
+pub mod Lists
+pub mod Scans
+pub mod Seeks
+pub mod Tables
+pub mod Versions
+pub mod Wholes
