@@ -5,6 +5,8 @@
 #[cfg(test)]
 mod block;
 #[cfg(test)]
+mod clients;
+#[cfg(test)]
 mod compared;
 #[cfg(test)]
 mod configuration_files;
@@ -34,6 +36,8 @@ mod records;
 mod rows;
 #[cfg(test)]
 mod sealer;
+#[cfg(test)]
+mod shared_states;
 #[cfg(test)]
 mod states;
 #[cfg(test)]

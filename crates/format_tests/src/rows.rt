@@ -1,8 +1,8 @@
 // Rows, each a question and the answer that others give, and who answers it here.
 
 use crate::{
-    block, compared, configuration_texts, configurations, fields, fronts, gcm, ids, key_derivation,
-    nodes, records, sealer, states,
+    block, clients, compared, configuration_texts, configurations, fields, fronts, gcm, ids,
+    key_derivation, nodes, records, sealer, shared_states, states,
 };
 use std::alloc::Global;
 use std::test::Fail;
@@ -24,6 +24,10 @@ fn formats(alloc: Global, word: &str, rest: &str) -> Result<String, Fail> {
         "spent" => states::spent(alloc, rest),
         "written" | "live" | "last" | "fresh" => states::known(alloc, word, rest),
         "digest" => states::digest(alloc, rest),
+        "seen" | "noted" => clients::answer(alloc, word, rest),
+        "shared" => shared_states::told(alloc, rest),
+        "shared-ends" => shared_states::other_ends(alloc),
+        "shared-shown" => shared_states::shown(alloc),
         "seal-configuration" => configurations::seal(alloc),
         "open" => configurations::opened_file(alloc, rest),
         "open-under" => configurations::opened_under(alloc, rest),
