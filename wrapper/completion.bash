@@ -1,6 +1,6 @@
 # Sergunad: the words of `cryfs` for the Tab key of bash. `./build --install` puts it where bash looks; `source` takes it at once.
 
-_cryfs_commands="create info passwd migrate check shell mount import export update put get generate trial ls stat mkdir rmdir mkfile rm mv
+_cryfs_commands="create info passwd migrate check shell mount look import export update put get generate trial ls stat mkdir rmdir mkfile rm mv
     symlink readlink write read truncate chmod chown utime sync tree du"
 
 # Adds files (-f) or folders (-d) of this machine that begin with the word.
@@ -19,8 +19,10 @@ _cryfs_behind() {
         du:1) echo "-s" ;;
         rm:1) echo "-r" ;;
         trial:1) echo "generate" ;;
-        import:[3-9]) echo "--quiet --leave-out" ;;
-        export:[3-9]) echo "--quiet" ;;
+        look:1) echo "ls stat readlink read get" ;;
+        import:1 | export:1) echo "--times" ;;
+        import:[3-9]) echo "--quiet --leave-out --times" ;;
+        export:[3-9]) echo "--quiet --times" ;;
         update:[3-9]) echo "--quiet --leave-out --delete --delete-all --dry-run" ;;
         mount:[2-9]) echo "--background" ;;
     esac
@@ -68,7 +70,10 @@ _cryfs() {
             (( at -= 2 ))
         fi
     fi
-    _cryfs_word $(( COMP_CWORD - at )) "${COMP_WORDS[at+2]}" "$word"
+    local command=${COMP_WORDS[at+2]}
+    # What stands between a copy and its folder moves that.
+    (( COMP_CWORD > at + 3 )) && [[ ${COMP_WORDS[at+3]} == --times ]] && (( at += 1 ))
+    _cryfs_word $(( COMP_CWORD - at )) "$command" "$word"
 }
 
 complete -F _cryfs cryfs ./cryfs

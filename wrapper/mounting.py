@@ -7,10 +7,10 @@ import syslog
 import mounts
 import running
 from beside import go_beside, leave_streams, pipe
+from folders import lies_within, real, same_folder
 from passwords import die_of
 from serving import Serving
 from telling import Refused, named, say
-from words import lies_within, real, same_folder
 
 
 def check(call):

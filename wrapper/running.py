@@ -177,8 +177,11 @@ def handed_on(side, is_watched, output):
 
 
 def start_of_line(held):
-    """Where the last line begins, behind what clears a line that is written over; the end of what tells how far it is."""
-    return max(start_of_last(held), held.rfind(CLEARS) + len(CLEARS) if CLEARS in held else 0) if held.endswith(b"\n") else len(held)
+    """Where the last line begins, behind one that is written over and the line's end that follows it; the end of what tells how far it is."""
+    if not held.endswith(b"\n"):
+        return len(held)
+    cleared = held.rfind(CLEARS) + len(CLEARS) if CLEARS in held else 0
+    return max(start_of_last(held), cleared + (cleared > 0 and held[cleared:cleared + 1] == b"\n"))
 
 
 def came_out(side, output):
@@ -270,4 +273,6 @@ def failure_lines(status, text, call):
 def success_lines(call):
     if call.command == "create":
         return [telling.STATE_MATTERS]
+    if call.command == "look":
+        return [telling.LOOKED]
     return looking.told_formats(call.state) if call.command == "info" else []

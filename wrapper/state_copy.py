@@ -7,9 +7,9 @@ import struct
 import time
 from collections import namedtuple
 
+from folders import lies_within, same_folder
 from looking import MARK_AT, NEW_RECORD, OLD_RECORD, RECORD
 from telling import Refused, named, say, write_whole
-from words import lies_within, same_folder
 
 # How a run ends that was done itself, and whose record wasn't copied.
 NOT_COPIED, TEXT = 17, "state not copied"

@@ -19,6 +19,8 @@ SIGN = re.compile("where the output says ((?:`[a-z-]+`(?: or )?)+)")
 # What a new file system's owner has to know first.
 STATE_MATTERS = ("Without STATE nothing opens, password or not. Copy it after each run that writes, to another trusted place; "
                  "an older copy doesn't open newer blocks.")
+# What is said of what was read without the record.
+LOOKED = "looked without STATE: what is shown may be old"
 
 
 class Refused(Exception):
@@ -78,6 +80,8 @@ def meanings(status, text, command, known):
     """What the table says of a status, negative for a signal, and the text that the program printed, in a line for each cause."""
     rows = [row for row in status_rows() if row[0] == str(status if status >= 0 else 128 - status) and row[1] in ("", text)]
     rows = [row for row in rows if command in (commands_of(row[2]) or [command]) and known.is_cause(row[2])]
+    # (of a look no other cause tells what the record has to do with it)
+    rows = [row for row in rows if commands_of(row[2]) == ["look"]] or rows
     for it in (A_FILE, NO_FOLDER):
         rows = [row for row in rows if it in row[2]] or rows
     if status < 0:

@@ -2,7 +2,7 @@
 import os
 
 import names
-from words import LINES
+from forms import LINES
 
 QUOTES = b"'\""
 VIOLATION = b"violation "
