@@ -22,9 +22,9 @@ BUILT = f"{TOP}/crates/cryfs/out/cryfs"
 LIMIT = 290
 # Seconds that one has to end after it was interrupted.
 GRACE = 10
-# They run beside each other. The last one plays the wrapper as a person meets it, and waits most of the time. Its cases over the built program
-# (`trials/hands.py built`) are left to hands until each was run with the terminal's new texts.
-CHECKS = ("tools/crates.py cryfs", "tools/names.py", "tools/plants.py", "tools/pages.py", "tools/prose.py", "trials/hands.py unbuilt")
+# They run beside each other. The last two play the wrapper as a person meets it, and wait most of the time: so each runs two cases at once.
+CHECKS = ("tools/crates.py cryfs", "tools/names.py", "tools/plants.py", "tools/pages.py", "tools/prose.py", "trials/hands.py unbuilt --beside 2",
+          "trials/hands.py built --beside 2")
 
 
 def pass_on(lines):
@@ -43,7 +43,7 @@ def pass_on(lines):
 
 def lacking(words, is_proved):
     """Why a check can't be run here, or nothing."""
-    if words.endswith(" built"):
+    if "built" in words.split():
         return "" if is_proved and os.path.exists(BUILT) else "the program isn't built"
     return ""
 

@@ -5,14 +5,16 @@ Nothing is proved here: each case gets a tree of its own, in which the sources a
 writes down how it was called and puts the program where the real one puts it, and the program is a script that prints
 its words and each line of its input, or that of `hands_model.py`. The cases of `hands_real.py`, `hands_copies.py`, `hands_checks.py`,
 `hands_removing.py` and `hands_updating.py`, and some of `hands_files.py`, `hands_state_copy.py` and `hands_listing.py`, take the program that was built here,
-and then the one for AVX2, where this processor has that. `--program FILE` has them take FILE alone. Words of this script name
-the cases to run; `built` are those that take such a program, `unbuilt` the others. Without words all are run. A case that finds
-no terminal here, or no module of python that it needs, is skipped, and counts as neither."""
+and then the one for AVX2, where this processor has that. `--program FILE` has them take FILE alone, and `--beside N` runs N cases at
+once. Words of this script name the cases to run; `built` are those that take such a program, `unbuilt` the others. Without words all
+are run. A case that finds no terminal here, or no module of python that it needs, is skipped, and counts as neither."""
 import os
 import signal
 import subprocess
 import sys
 import tempfile
+from concurrent.futures import ProcessPoolExecutor
+from multiprocessing import get_context
 
 import hands_asking
 import hands_build
@@ -22,6 +24,7 @@ import hands_copies
 import hands_files
 import hands_flushing
 import hands_golden
+import hands_hints
 import hands_listing
 import hands_mount
 import hands_names
@@ -34,7 +37,8 @@ import hands_updating
 import hands_words
 from hands_tree import BUILT, Skipped, Tree, programs_here
 
-CASES = (hands_build.CASES + hands_processor.CASES + hands_words.CASES + hands_terminal.CASES + hands_files.CASES + hands_asking.CASES +
+DEEP = 20000
+CASES = (hands_build.CASES + hands_processor.CASES + hands_words.CASES + hands_hints.CASES + hands_terminal.CASES + hands_files.CASES + hands_asking.CASES +
          hands_state_copy.CASES + hands_causes.CASES + hands_names.CASES + hands_listing.CASES + hands_flushing.CASES +
          hands_mount.CASES)
 REAL = (hands_real.CASES + hands_golden.CASES + hands_copies.CASES + hands_files.REAL + hands_checks.CASES + hands_removing.CASES +
@@ -87,17 +91,36 @@ def real_mount_cases():
     return hands_mount.REAL
 
 
+def tried(chosen, beside):
+    """What each case came to. So many are tried at once, each by a process that has its own signals and folder."""
+    if beside < 2 or not chosen:
+        return [passes_once_or_twice(*it) for it in chosen]
+    with ProcessPoolExecutor(beside, get_context("fork")) as pool:
+        return list(pool.map(passes_once_or_twice, *zip(*chosen)))
+
+
+def taken(words, option):
+    """The word behind an option, which goes with it from the words; nothing where it isn't there."""
+    if option not in words:
+        return None
+    at = words.index(option)
+    value = words[at + 1]
+    del words[at : at + 2]
+    return value
+
+
 def main(words):
+    # (a case that was cut short may leave folders that lie deep in each other, which go one below the other)
+    sys.setrecursionlimit(DEEP)
     # What is started here has the system's own answer to signals, also where this was begun with some ignored.
     for it in (signal.SIGINT, signal.SIGHUP, signal.SIGQUIT):
         signal.signal(it, signal.default_int_handler if it == signal.SIGINT else signal.SIG_DFL)
-    programs = programs_here()
-    if words[:1] == ["--program"]:
-        programs, words = [os.path.abspath(words[1])], words[2:]
+    program, beside = taken(words, "--program"), int(taken(words, "--beside") or 1)
+    programs = [os.path.abspath(program)] if program else programs_here()
     real = REAL + real_mount_cases()
     chosen = [(case, None) for case in CASES + mount_cases()] + [(case, it) for it in programs for case in real]
     chosen = [it for it in chosen if is_chosen(it[0], words)]
-    told = [passes_once_or_twice(*it) for it in chosen]
+    told = tried(chosen, beside)
     if not programs:
         print(f"{len(real)} weren't run: the program isn't built")
     print(f"{told.count(True)} passed, {told.count(False)} failed, {told.count(None)} skipped")

@@ -239,11 +239,11 @@ def installs_and_removes(tree):
 
 def the_tab_key_of_bash_knows_the_words(tree):
     needs("/bin/bash")
-    import words
+    import forms
     os.makedirs(f"{tree.top}/photos")
-    late = " ".join(words.LATE_OPTIONS["update"])
+    late = " ".join(forms.LATE_OPTIONS["update"])
     for typed, wanted in (('""', "photos"), ("--n", "--names"), ("--names = ''", "plain exact"), ("--strict --password-file crates.t", "crates.txt"),
-                          ("b s ''", " ".join(words.COMMANDS)), ("b s mk", "mkdir mkfile"), ("--names plain b s imp", "import"), ("b s import pho", "photos"),
+                          ("b s ''", " ".join(forms.COMMANDS)), ("b s mk", "mkdir mkfile"), ("--names plain b s imp", "import"), ("b s import pho", "photos"),
                           ("b s update photos / --", late), ("b s create --blo", "--blocksize"), ("b s check --", "--all --quiet"), ("b s get ''", "")):
         script = f"source wrapper/completion.bash; compopt() {{ :; }}; COMP_WORDS=(cryfs {typed}); COMP_CWORD=$((${{#COMP_WORDS[@]}} - 1)); _cryfs; echo ${{COMPREPLY[*]}}"
         status, out, errors = tree.run("-c", script, script="/bin/bash")

@@ -136,7 +136,7 @@ def a_program_that_ends_first_ends_a_put(tree):
 def a_status_is_explained_for_its_command(tree):
     kept(tree).write("f", "x")
     for command, number, text, told, untold in (
-            ("get", 13, "copy refused", "`get` found no file at PATH", "the output names it"),
+            ("get", 13, "copy refused", "`get` or `look` found no file at PATH", "the output names it"),
             ("put", 13, "copy refused", "`put` met what is there, where the output says `exists`: `rm` it first", "`get`"),
             ("put", 8, "input fault", "`put` couldn't read the file to its end, and may have left a part: `rm` PATH", "`get`"),
             ("put", 3, "configuration does not open", "`put` took the file's first line for the password", "`get`"),

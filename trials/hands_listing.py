@@ -31,8 +31,8 @@ def listed(tree, *words):
 
 def rows_are_listed_with_their_numbers(tree):
     grown(tree)
-    wanted = ("drw-r--r--  - 1970-01-01 00:00 {}\n-rw-r--r-- 40 2025-11-30 12:12 b\ndrw-r--r--  - 1970-01-01 00:00 empty\n"
-              "lrw-r--r--  3 1970-01-01 00:00 link -> {}\n")
+    wanted = ("drwxr-xr-x  - 1970-01-01 00:00 {}\n-rw-r--r-- 40 2025-11-30 12:12 b\ndrwxr-xr-x  - 1970-01-01 00:00 empty\n"
+              "lrwxrwxrwx  3 1970-01-01 00:00 link -> {}\n")
     exact = listed(tree, "ls", "-l", "/d")
     same(exact, wanted.format("\\xc3\\x89t\\xc3\\xa9\\x202026", "a\\x20b"), "in a pipe")
     same(at_terminal(tree, *QUIET, "ls", "-l", "/d").replace("\r", ""), wanted.format("Été 2026", "a b"), "at a terminal")
@@ -104,7 +104,7 @@ def a_terminal_sees_how_far_it_is(tree):
     grown(tree)
     wants(tree, "hooks", **{"stat__d/b": "sleep 1.2", "stat__d/empty": "sleep 1.2"})
     seen = at_terminal(tree, *QUIET, "ls", "-l", "/d")
-    has(seen, "\rcryfs: 2 of 4 rows of /d\x1b[K", "\r\x1b[Kdrw-r--r--  - ")
+    has(seen, "\rcryfs: 2 of 4 rows of /d\x1b[K", "\r\x1b[Kdrwxr-xr-x  - ")
 
 
 def one_that_is_interrupted_ends(tree):

@@ -221,6 +221,13 @@ def create(blocks, state):
     return end(0, "")
 
 
+def look(blocks, words):
+    """Answers one line by BLOCKS alone, and keeps nothing."""
+    run = Run(blocks, None)
+    print(run.answer(" ".join(words)), flush=True)
+    return end(run.status, EXITS[run.status])
+
+
 def end(status, text):
     """Ends so, or as a case wants."""
     if os.path.exists(f"{HERE}/fails"):
@@ -237,6 +244,8 @@ def main(blocks, state, command, *words):
     given.readline()
     if command == "create":
         return create(blocks, state)
+    if command == "look":
+        return look(blocks, words)
     run = Run(blocks, state)
     if command == "shell":
         while raw := given.readline():

@@ -317,7 +317,7 @@ def a_status_is_explained(tree):
                 terminal.answer("New password again: ", "pw")
             status, seen = terminal.end()
             wanted = [f"{row[2]}: {row[3]}" for row in rows if row[:2] == (number, text) and "ends in" not in row[2] and
-                      "FOLDER isn't there" not in row[2] and not row[2].startswith(("`ls`", "`export`", "`create`", "`check`", "`import`", "`put`", "`get`", "`migrate`", "`update`", "`rm`", "`passwd`" if words == "info" else "none"))]
+                      "FOLDER isn't there" not in row[2] and not row[2].startswith(("`ls`", "`look`", "`export`", "`create`", "`check`", "`import`", "`put`", "`get`", "`migrate`", "`update`", "`rm`", "`passwd`" if words == "info" else "none"))]
             wanted = [f"cryfs: {'or ' if it else ''}{line}" for it, line in enumerate(wanted)]
             same((status, seen.strip().split("\r\n")), (int(number), [f"cryfs: {text}", *wanted]), "what is seen")
         same(tree.run("b", "s", "info", given=b"pw\n"), (int(number), "", f"cryfs: {text}\n"), "in a pipe")

@@ -5,7 +5,8 @@ import re
 import shutil
 import signal
 
-from hands_tree import ANSWERS, LIMIT, TOP, has, require, same, wait_until
+from hands_asking import line, modelled, wants
+from hands_tree import ANSWERS, LIMIT, TOP, Terminal, has, require, same, wait_until
 
 # A program that prints all that it is given, byte for byte.
 COPIES = '#!/bin/sh\necho "words $*"\nexec cat\n'
@@ -35,6 +36,9 @@ def words_are_looked_at_first(tree):
              "b s import f / --quiet --quiet", "b s import f / --quick", "b s import f --quiet /", "b s export f / --leave-out",
              "b s check --leave-out", "b s check --quiet --quiet", "b s put /f --quiet", "b s import --leave-out f /",
              "b s put '/a f'", "b s get '/a f'", "b s import f '/a f'", "b s import f /a/", "b s export f //", "b s put /a/../f", "b s get /./f",
+             "b s look", "b s look ls", "b s look rm /a", "b s look ls /a b", "b s look ls -l /", "b s look read /a 0", "b s look check", "b s look get", "b s look get a",
+             "b s import --times f", "b s import --times /", "b s import --times f / --times", "b s import f / --times --times", "b s export f --times /",
+             "b s update f / --times", "b s --times import f /", "--state-copy c b s look ls /",
              "b s create --blocksize", "b s create --blocksize=x", "b s create --", "--wrong b s ls /", "--password-file",
              "--password-file f --password-command c b s info", "--password-file f b s trial", "'' s info", "b '' info")
     for built in (False, True):
@@ -207,13 +211,74 @@ def using_has_the_table_of_statuses(tree):
     page = open(f"{TOP}/docs/USING.md", encoding="utf-8").read()
     rows = [f"| {number} | {f'`{text}` ' if text else ''}| {cause} | {remedy} |" for number, text, cause, remedy in tree.status_rows()]
     same([line for line in page.splitlines() if re.match(r"\| \d+ \| (`|\|)", line)], rows, "the rows of the page")
-    require(page.count("\n") <= 300, "more than 300 lines")
+    require(page.count("\n") <= 320, "more than 320 lines")
     help_text = " ".join(tree.run("--help")[1].split())
     for _, text, cause, remedy in tree.status_rows():
         has(help_text, text, f"{cause}: {remedy}")
 
 
+def a_look_needs_no_record(tree):
+    modelled(tree)
+    line(tree, "mkdir", "/d")
+    line(tree, "mkfile", "/d/a\\x20b")
+    line(tree, "write", "/d/a\\x20b", "0", "6162")
+    before = open(f"{tree.top}/s/cryfs.localstate", "rb").read()
+    looks = ((("ls", "/d"), "list 1\nf a\\x20b\n"), (("read", "/d/a\\x20b", "0", "9"), "data 6162\n"), (("stat", "/no"), "error no-entry\n"))
+    for state in ("s", "gone", "marked"):
+        tree.write("marked/cryfs.localstate", "cryfs.localstate;2\0\1")
+        for words, answer in looks:
+            status, out, errors = tree.run("b", state, "look", *words, given=b"pw\n")
+            same((status, out, errors), (0, answer, ""), f"{state} {words}")
+    same((os.path.exists(f"{tree.top}/gone"), open(f"{tree.top}/s/cryfs.localstate", "rb").read()), (False, before), "what was made or changed")
+    same(tree.run("--strict", "b", "gone", "look", "stat", "/no", given=b"pw\n")[:2], (18, "error no-entry\n"), "a script that is strict")
+    tree.exported = {"CRYFS_STATE_COPY": "copy"}
+    same((tree.run("b", "s", "look", "ls", "/", given=b"pw\n")[0], os.path.exists(f"{tree.top}/copy")), (0, False), "a copy of STATE")
+    tree.exported = {"CRYFS_BLOCKS": "b", "CRYFS_STATE": "gone"}
+    same(tree.run("look", "ls", "/", given=b"pw\n")[1], "list 1\nd d\n", "folders of the environment")
+    has(tree.run("b", "gone", "ls", "/")[2], "`look ls /` shows files without it")
+    same(tree.run("b", "b/s", "look", "ls", "/", given=b"pw\n")[0], 125, "STATE in BLOCKS")
+
+
+def a_look_gets_a_file(tree):
+    modelled(tree).write("pw", "pw\n")
+    content = os.urandom((1 << 20) + 5)
+    for path, given in (("/big", content), ("/whole", content[: 1 << 20]), ("/empty", b"")):
+        tree.run("b", "s", "put", path, given=b"pw\n" + given)
+        started = tree.start("--password-file", "pw", "b", "gone", "look", "get", path)
+        out, errors = started.communicate(timeout=LIMIT)
+        same((started.returncode, out == given, errors), (0, True, b""), path)
+    status, out, errors = tree.run_whole("b", "gone", "look", "get", "/no", given=b"pw\n")
+    same((status, out), (13, ""), errors)
+    has(errors, "error no-entry\n", "found no file at PATH", "cryfs: copy refused\n")
+    wants(tree, "answers", read="violation missing")
+    same(tree.run("b", "gone", "look", "get", "/big", given=b"pw\n"), (5, "", "violation missing\ncryfs: integrity violation\n"), "a block that is missing")
+    same(tree.run("-c", "./cryfs --password-file pw b gone look get /empty >/dev/full", script="/bin/sh")[0], 5, "before anything is written")
+
+
+def a_look_is_told_to_a_person(tree):
+    modelled(tree).write("pw", "pw\n")
+    line(tree, "mkdir", "/Ü\\x20d")
+    told, quiet = "cryfs: looked without STATE: what is shown may be old\r\n", ("--password-file", "pw", "b", "gone", "look")
+    for words, wanted in ((("ls", "/"), "list 1\r\nd Ü d\r\n"), (("ls", "/Ü d"), "list 0\r\n")):
+        same(Terminal(tree, *quiet, *words).end(), (0, wanted + told), words)
+    wants(tree, "answers", ls="violation missing")
+    status, out, errors = tree.run_whole("b", "gone", "look", "ls", "/", given=b"pw\n")
+    same((status, out), (5, "violation missing\n"), errors)
+    same(errors, "cryfs: `look` met a block that is missing or was changed, and marked nothing: wait until a cloud has brought all, or bring BLOCKS back\n"
+         "cryfs: integrity violation\n", "its cause")
+
+
+def a_copy_keeps_times_where_that_is_asked(tree):
+    tree.built()
+    for words, wanted in (("import --times f /", "import --times f /"), ("import f / --times", "import --times f /"),
+                          ("import f / --quiet --times --leave-out", "import --times f / --quiet --leave-out"),
+                          ("export --times f / --quiet", "export --times f / --quiet"), ("export f /", "export f /"),
+                          ("import ./--times /", "import ./--times /")):
+        out = tree.run("b", "s", *words.split(), given=b"pw\n")[1]
+        same(out.splitlines()[1], f"words b s {wanted}", words)
+
+
 CASES = [help_is_answered_at_once, words_are_looked_at_first, hands_on_what_a_pipe_gives, new_passwords_are_handed_on_whole,
          an_empty_input_is_no_new_password, folders_in_each_other_are_refused, only_create_makes_a_record, folders_come_from_the_environment,
          passwords_come_from_a_file, lines_behind_a_password_file_come_as_they_are, closed_streams_take_no_answers,
-         signals_are_those_of_the_caller, a_terminal_that_is_not_ours_is_not_asked, using_has_the_table_of_statuses]
+         a_look_needs_no_record, a_look_gets_a_file, a_look_is_told_to_a_person, a_copy_keeps_times_where_that_is_asked, signals_are_those_of_the_caller, a_terminal_that_is_not_ours_is_not_asked, using_has_the_table_of_statuses]
