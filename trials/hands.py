@@ -4,7 +4,7 @@
 Nothing is proved here: each case gets a tree of its own, in which the sources are a line each, `rt` is a script that
 writes down how it was called and puts the program where the real one puts it, and the program is a script that prints
 its words and each line of its input, or that of `hands_model.py`. The cases of `hands_real.py`, `hands_copies.py`, `hands_checks.py`,
-`hands_removing.py` and `hands_updating.py`, and some of `hands_files.py`, `hands_state_copy.py` and `hands_listing.py`, take the program that was built here,
+`hands_looking.py`, `hands_removing.py` and `hands_updating.py`, and some of `hands_files.py`, `hands_state_copy.py` and `hands_listing.py`, take the program that was built here,
 and then the one for AVX2, where this processor has that. `--program FILE` has them take FILE alone, and `--beside N` runs N cases at
 once. Words of this script name the cases to run; `built` are those that take such a program, `unbuilt` the others. Without words all
 are run. A case that finds no terminal here, or no module of python that it needs, is skipped, and counts as neither."""
@@ -26,6 +26,7 @@ import hands_flushing
 import hands_golden
 import hands_hints
 import hands_listing
+import hands_looking
 import hands_mount
 import hands_names
 import hands_processor
@@ -42,7 +43,7 @@ CASES = (hands_build.CASES + hands_processor.CASES + hands_words.CASES + hands_h
          hands_state_copy.CASES + hands_causes.CASES + hands_names.CASES + hands_listing.CASES + hands_flushing.CASES +
          hands_mount.CASES)
 REAL = (hands_real.CASES + hands_golden.CASES + hands_copies.CASES + hands_files.REAL + hands_checks.CASES + hands_removing.CASES +
-        hands_updating.CASES + hands_state_copy.REAL + hands_listing.REAL)
+        hands_updating.CASES + hands_state_copy.REAL + hands_listing.REAL + hands_looking.REAL)
 
 
 def is_chosen(case, words):
